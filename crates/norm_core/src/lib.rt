@@ -1,0 +1,11 @@
+//! The top call: words, a source and a sink in, a status out.
+#![tactic(auto)]
+
+mod answering;
+mod form;
+mod run;
+
+pub use run::run_alone;
+
+#[cfg(test)]
+mod tests;
