@@ -1,0 +1,4 @@
+pub mod Exponents
+pub mod Factors
+pub mod Last
+pub mod Order
