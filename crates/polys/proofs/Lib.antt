@@ -1,0 +1,16 @@
+pub mod Affine
+pub mod Coefficients
+pub mod Degrees
+pub mod Derivatives
+pub mod Each
+pub mod Field
+pub mod Ideals
+pub mod Instance
+pub mod Leads
+pub mod Merge
+pub mod Products
+pub mod Stated
+pub mod Sums
+pub mod Unique
+pub mod Units
+pub mod Weights

@@ -1,0 +1,35 @@
+// A curve as plain data.
+ghost use Rattle.std.specs.Prelude.{◌≡◌, ◌↔◌, IsTrue};
+
+use crate::Poly;
+use norm_outside::List;
+use prime_field::Prime;
+
+/// The ring of the polynomials in the first `variables` variables over `prime` modulo `ideal`, with the polynomial
+/// `denominator` over whose powers fractions stand. It is plain data; the fact `Fit` says what the program asks of it.
+#[derive(Debug, Drop)]
+pub struct Curve {
+    pub prime: Prime,
+    pub variables: u32,
+    pub ideal: List<Poly>,
+    pub denominator: Poly,
+}
+
+impl Curve {
+    /// Whether the data are equal.
+    pub fn same(&self, other: &Curve) -> bool
+        ensures { IsTrue result ↔ (self.now ≡ other.now) }
+    {
+        let a = self.ideal.as_slice();
+        let b = other.ideal.as_slice();
+        if self.prime != other.prime || self.variables != other.variables || a.len() != b.len() {
+            return false;
+        }
+        for i in 0..a.len() {
+            if !a[i].same(&b[i]) {
+                return false;
+            }
+        }
+        self.denominator.same(&other.denominator)
+    }
+}
