@@ -1,0 +1,4 @@
+pub mod Fractions
+pub mod Points
+pub mod Curves
+pub mod Laws
