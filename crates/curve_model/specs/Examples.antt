@@ -1,0 +1,58 @@
+-- Curves on which the definitions were tried.
+use Rattle.std.specs.Prelude.{ℕ, List, [], ◌∷◌}
+use Rattle.polys.specs.declared.term.Term.{Term}
+use Rattle.polys.specs.Terms.{one}
+use Rattle.polys.specs.Curve.{CurveData, HasDimModulo}
+use Rattle.curve_model.specs.Fraction.{Fraction, IsFraction, InA, over}
+use Rattle.curve_model.specs.Integral.{Integral}
+use Rattle.curve_model.specs.Point.{IsPoint, HasDegree}
+
+-- c x^i y^j
+abbrev pub term_of : ℕ → ℕ → ℕ → Term
+term_of c i j = record { coeff = c; mono = record { exponents = i ∷ j ∷ 0 ∷ 0 ∷ 0 ∷ 0 ∷ 0 ∷ []; component = 0 } }
+
+-- ---- the cusp x^3 = y^2 over F_7 with d = x^2
+
+abbrev pub cusp : CurveData
+cusp = record { prime = 7; variables = 2; ideal = (term_of 1 3 0 ∷ term_of 6 0 2 ∷ []) ∷ []; denominator = term_of 1 2 0 ∷ [] }
+
+-- the ideal of y and x
+abbrev pub origin : List (List Term)
+origin = (term_of 1 0 1 ∷ []) ∷ (term_of 1 1 0 ∷ []) ∷ []
+
+-- x y over d is integral
+abbrev pub ProductIsIntegral : Type 0
+ProductIsIntegral = Integral cusp (over (term_of 1 1 1 ∷ []) 1)
+
+-- 1 over d is not
+abbrev pub InverseIsNotIntegral : Type 0
+InverseIsNotIntegral = Integral cusp (over one 1) → ⊥
+
+-- y, x is a point of degree 1
+abbrev pub OriginIsPoint : Type 0
+OriginIsPoint = IsPoint cusp origin
+
+abbrev pub OriginHasDegreeOne : Type 0
+OriginHasDegreeOne = HasDegree cusp origin 1
+
+-- ---- the plane over F_7 with d = 2
+
+abbrev pub plane : CurveData
+plane = record { prime = 7; variables = 2; ideal = []; denominator = term_of 2 0 0 ∷ [] }
+
+-- there is no point
+abbrev pub PlaneHasNoPoint : Type 0
+PlaneHasNoPoint = (P : List (List Term)) → IsPoint plane P → ⊥
+
+-- every fraction is in A
+abbrev pub PlaneHasNoFractions : Type 0
+PlaneHasNoFractions = (f : Fraction) → IsFraction plane f → InA plane f
+
+-- ---- one point x = 1 of the line over F_7, with d = x
+
+abbrev pub one_point : CurveData
+one_point = record { prime = 7; variables = 1; ideal = (term_of 1 1 0 ∷ term_of 6 0 0 ∷ []) ∷ []; denominator = term_of 1 1 0 ∷ [] }
+
+-- modulo d nothing is left
+abbrev pub OnePointHasDimensionZero : Type 0
+OnePointHasDimensionZero = HasDimModulo one_point 0

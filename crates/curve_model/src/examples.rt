@@ -1,0 +1,32 @@
+// The definitions tried on small curves, each the contract of a function that does nothing.
+ghost use Rattle.curve_model.specs.Unit.{UnitsCloseNothing};
+ghost use Rattle.curve_model.specs.Examples.{ProductIsIntegral, InverseIsNotIntegral, OriginIsPoint, OriginHasDegreeOne, PlaneHasNoPoint, PlaneHasNoFractions, OnePointHasDimensionZero};
+
+/// On the cusp x^3 = y^2 over F_7 with d = x^2 the fraction xy/d is integral, since its square is x, and 1/d is not.
+pub fn cusp_has_integral_fractions()
+    ensures product { ProductIsIntegral }
+    ensures inverse { InverseIsNotIntegral }
+{}
+
+/// The origin is a point of the cusp, of degree 1.
+pub fn cusp_has_the_origin()
+    ensures point { OriginIsPoint }
+    ensures degree { OriginHasDegreeOne }
+{}
+
+/// On the plane over F_7 with the unit d = 2 there is no point, and every fraction is a polynomial.
+pub fn plane_with_a_unit_has_no_points()
+    ensures none { PlaneHasNoPoint }
+    ensures fractions { PlaneHasNoFractions }
+{}
+
+/// On the line over F_7 with I = (x - 1) and d = x nothing is left modulo d.
+pub fn unit_denominators_leave_nothing()
+    ensures { OnePointHasDimensionZero }
+{}
+
+/// Over any prime, where I = 0 and d = 1 there is no point, each fraction is a polynomial, and the closure has the power
+/// 0 and the numerator 1.
+pub fn units_close_nothing()
+    ensures { UnitsCloseNothing }
+{}
