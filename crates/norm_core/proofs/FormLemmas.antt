@@ -1,5 +1,5 @@
 -- How a text falls into its parts.
-use Rattle.std.proofs.Common.{◌≡◌, ℕ, suc, zero, ◌+◌, ◌-◌, ◌<◌, ◌≤◌, List, [], ◌∷◌, ◌++◌, length, take, drop, true, false, refl, ap, sym, ◌∙◌, subst, inl, inr, ◌⊎◌, arith}
+use Rattle.std.proofs.Common.{◌≡◌, ℕ, ◌<◌, ◌≤◌, List, [], ◌∷◌, ◌++◌, length, take, drop, true, refl, ap, sym, ◌∙◌, subst, inl, inr, arith}
 use Rattle.std.proofs.Math.Seq.{take-append_seam, drop-append_seam}
 use Rattle.std.proofs.lemmas.List.{append_cancel_left, take-append-drop, length-take}
 use Rattle.std.proofs.lemmas.List.Elements.{All-head, All-tail}
@@ -7,7 +7,7 @@ use Rattle.std.proofs.lemmas.Slice.Eq.{bytes_eq-Decides}
 use Rattle.std.specs.Str.{bytes_eq}
 use Rattle.std.specs.List.{All}
 use Rattle.std.specs.Prelude.{Option, Some, None, IfNone}
-use Rattle.norm_core.specs.Form.{HasForm, IsDigit, IsNumber, EndsDigits, IsEnd, number_of, form, before_characteristic, before_denominator}
+use Rattle.norm_core.specs.Form.{HasForm, IsDigit, IsNumber, EndsDigits, IsEnd, number_of, before_characteristic, before_denominator}
 
 -- a text that passes the test begins with `start`
 pub begins-means : (text start rest : List ℕ) → bytes_eq (take (length start) text) start ≡ true

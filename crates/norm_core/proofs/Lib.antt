@@ -1,3 +1,5 @@
 pub mod Digits
 pub mod FormLemmas
 pub mod TellingLemmas
+pub mod Constant
+pub mod PlaneAnswer

@@ -1,12 +1,12 @@
 -- What is told of an input is one thing.
-use Rattle.std.proofs.Common.{◌≡◌, ◌≢◌, ℕ, ◌+◌, ◌%◌, ◌<◌, ◌≤◌, List, [], ◌∷◌, ◌++◌, length, take, refl, ap, sym, ◌∙◌, subst, inl, inr, ◌⊎◌, arith, append-nil, length-append}
+use Rattle.std.proofs.Common.{◌≡◌, ◌≢◌, ℕ, ◌%◌, ◌<◌, ◌≤◌, List, ◌++◌, length, take, refl, ap, sym, ◌∙◌, subst, inl, inr, ◌⊎◌, arith, append-nil, length-append}
 use Rattle.std.proofs.lemmas.Bool.Decides.{nat_tests}
 use Rattle.std.specs.Prelude.{Option, Some, None, Bool, true, false, nat_le, ◌==◌}
 use native.Mathlib.Nat.{le_trans}
 use Rattle.std.specs.Io.KnownBytes.{Consumes, IsAtEnd, Appends}
 use Rattle.prime_field.specs.Primes.{IsCharacteristic}
 use Rattle.norm_core.specs.Form.{HasForm, number_of}
-use Rattle.norm_core.specs.Telling.{Tells, too_long, no_form, no_characteristic, zero_denominator, answer, Told, ToTell, IsCutShort, IsExact, IsStopped, HasNoForm, byte_limit}
+use Rattle.norm_core.specs.Telling.{Tells, too_long, no_form, no_characteristic, zero_denominator, answer, Told, ToTell, IsCutShort, IsExact, IsStopped, byte_limit}
 use Rattle.norm_core.proofs.FormLemmas.{form-unique}
 
 -- numbers compare

@@ -1,6 +1,10 @@
--- The one form of input that is served so far, and the text of its answer.
-use Rattle.std.specs.Prelude.{ℕ, ◌≡◌, ◌+◌, ◌*◌, ◌-◌, ◌<◌, ◌≤◌, ◌⊎◌, List, [], ◌∷◌, ◌++◌, length, codes, decimal}
+-- The one form of input that is served so far, and the problem that it states.
+use Rattle.std.specs.Prelude.{ℕ, ◌≡◌, ◌+◌, ◌*◌, ◌-◌, ◌<◌, ◌≤◌, ◌⊎◌, List, [], ◌∷◌, ◌++◌, length, codes, Some}
 use Rattle.std.specs.List.{All}
+use Rattle.monomials.specs.Mono.{unit}
+use Rattle.polys.specs.declared.term.Term.{Term}
+use Rattle.polys.specs.Terms.{normal}
+use Rattle.singular_text.specs.Problem.{ProblemData}
 
 -- one of the bytes 0 to 9
 abbrev pub IsDigit : ℕ → Type 0
@@ -50,7 +54,16 @@ pub record HasForm (input p c : List ℕ) : Type 0 where
   pub is_end : IsEnd end
   pub text : input ≡ form p c end
 
--- the answer for a constant denominator that is not 0
-abbrev pub answer_text : ℕ → List ℕ
-answer_text p = codes "locnormal 1\ncharacteristic " ++ decimal p
-    ++ codes "\nvariables x,y\ndenominator 1\ndimension 0\npower 0\nnumerator 1\nend\n"
+-- the constant polynomial n modulo p
+abbrev pub constant : ℕ → ℕ → List Term
+constant p n = normal p (record { coeff = n; mono = unit } ∷ [])
+
+-- the problem that such an input states: the ideal 0 of F_p[x,y], and the constant denominator c
+abbrev pub problem_of : List ℕ → List ℕ → ProblemData
+problem_of p c = record {
+  prime = number_of p;
+  letters = codes "xy";
+  generators = [] ∷ [];
+  denominator = Some (constant (number_of p) (number_of c));
+  at = [];
+}

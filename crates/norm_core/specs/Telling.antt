@@ -1,8 +1,12 @@
 -- What a run tells of its input.
-use Rattle.std.specs.Prelude.{ℕ, ◌≡◌, ◌≢◌, ◌%◌, ◌<◌, ◌≤◌, ◌⊎◌, List, [], ◌∷◌, length, take, codes, Option, Some}
+use Rattle.std.specs.Prelude.{ℕ, ◌≡◌, ◌≢◌, ◌%◌, ◌<◌, ◌≤◌, ◌⊎◌, List, [], ◌∷◌, length, take, codes, Option, Some, IfSome}
 use Rattle.std.specs.Io.KnownBytes.{Consumes, IsAtEnd, Appends}
 use Rattle.prime_field.specs.Primes.{IsCharacteristic}
-use Rattle.norm_core.specs.Form.{HasForm, number_of, answer_text}
+use Rattle.polys.specs.declared.term.Term.{Term}
+use Rattle.polys.specs.Terms.{IsMonicOf}
+use Rattle.singular_text.specs.Problem.{ProblemData}
+use Rattle.norm_text.specs.Answers.{IsAnswerText}
+use Rattle.norm_core.specs.Form.{HasForm, number_of, problem_of}
 
 -- the words are the one command that is served
 abbrev pub IsAlone : List (List ℕ) → Type 0
@@ -29,6 +33,10 @@ characteristic_line = codes "refused: characteristic\n"
 abbrev pub HasNoForm : List ℕ → Type 0
 HasNoForm input = (p c : List ℕ) → ¬ HasForm input p c
 
+-- the text is the answer to the problem, with the denominator that it hands in made monic
+abbrev pub IsAnswerTo : ProblemData → List ℕ → Type 0
+IsAnswerTo problem text = (d : List Term) × IfSome problem.denominator (λ c. IsMonicOf problem.prime c d) × IsAnswerText problem d text
+
 -- what is told of an input, as a status and a text: it is too long; it has no form; its characteristic is
 -- not served; its denominator is 0 modulo p; or it has an answer
 pub data Tells (input : List ℕ) (status : ℕ) (text : List ℕ) : Type 0 where
@@ -39,7 +47,7 @@ pub data Tells (input : List ℕ) (status : ℕ) (text : List ℕ) : Type 0 wher
   zero_denominator : (p c : List ℕ) → length input ≤ byte_limit → HasForm input p c
       → IsCharacteristic (number_of p) → number_of c % number_of p ≡ 0 → status ≡ 40 → text ≡ not_yet_line → Tells input status text
   answer : (p c : List ℕ) → length input ≤ byte_limit → HasForm input p c
-      → IsCharacteristic (number_of p) → number_of c % number_of p ≢ 0 → status ≡ 0 → text ≡ answer_text (number_of p) → Tells input status text
+      → IsCharacteristic (number_of p) → number_of c % number_of p ≢ 0 → status ≡ 0 → IsAnswerTo (problem_of p c) text → Tells input status text
 
 -- these bytes were taken from the source, to its end unless they are too long, and this is told of them
 pub record Told (left left_now : Option (List ℕ)) (status : ℕ) (text : List ℕ) : Type 0 where

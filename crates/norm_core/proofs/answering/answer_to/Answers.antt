@@ -1,7 +1,8 @@
-use Rattle.std.proofs.Common.{◌≡◌, ◌≢◌, ℕ, ◌%◌, List, refl, sym, ◌∙◌, ap, subst}
+use Rattle.std.proofs.Common.{◌≡◌, ℕ, ◌%◌, refl, sym, ◌∙◌, subst}
 use Rattle.prime_field.specs.Primes.{IsCharacteristic}
-use Rattle.norm_core.specs.Form.{answer_text}
 use Rattle.norm_core.specs.Telling.{no_characteristic, zero_denominator, answer}
+use Rattle.prime_field.proofs.Table.{characteristics-are_prime}
+use Rattle.norm_core.proofs.PlaneAnswer.{plane_answer-to}
 use Rattle.norm_core.proofs.answering.answer_to.Goals as goal
 
 -- the residue of the two numbers that were read
@@ -24,4 +25,6 @@ returns-in-Ok-clause-answered c =
     let form = c.in-Some.ensures.found in
     answer form.0 form.1 c.requires form.2 (subst IsCharacteristic (sym form.3) c.in-Some-new.ensures.1)
     (λ zero. c.if-c-get-eq0.false (sym (residue-same _ _ _ _ _ _ form.4 form.3 c.get.ensures.value c.in-Some-new.ensures.0) ∙ zero)) refl
-    (c.in-Ok.ensures ∙ ap answer_text (c.in-Some-new.ensures.0 ∙ sym form.3))
+    (plane_answer-to form.0 form.1 _ _ (characteristics-are_prime _ (subst IsCharacteristic (sym form.3) c.in-Some-new.ensures.1))
+    (λ zero. c.if-c-get-eq0.false (sym (residue-same _ _ _ _ _ _ form.4 form.3 c.get.ensures.value c.in-Some-new.ensures.0) ∙ zero))
+    c.in-Ok.ensures (c.in-Some-new.ensures.0 ∙ sym form.3))

@@ -1,5 +1,5 @@
 use Rattle.norm_core.proofs.FormLemmas.{front-number, IsFront}
-use Rattle.std.proofs.Common.{◌≡◌, length, ◌-◌, take, drop, rules, arith, sym, ◌∙◌, ap}
+use Rattle.std.proofs.Common.{arith, sym, ◌∙◌, ap}
 use Rattle.std.proofs.lemmas.List.{take_rest}
 use Rattle.norm_core.specs.Form.{number_of}
 use Rattle.norm_core.proofs.form.number_at_front.Goals as goal

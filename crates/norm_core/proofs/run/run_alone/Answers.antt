@@ -1,4 +1,4 @@
-use Rattle.std.proofs.Common.{◌≡◌, ◌≢◌, refl, inl, inr}
+use Rattle.std.proofs.Common.{refl, inl, inr}
 use Rattle.norm_core.proofs.TellingLemmas.{told-exact, told-cut_short}
 use Rattle.norm_core.proofs.run.run_alone.Goals as goal
 

@@ -1,0 +1,6 @@
+pub mod Named
+pub mod Answer
+pub mod Answers
+pub mod Shown
+pub mod Joined
+pub mod Lines

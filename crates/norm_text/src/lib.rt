@@ -1,0 +1,11 @@
+//! The answer's text, and when a text is the answer to a problem with a given denominator.
+#![tactic(auto)]
+
+mod answer;
+mod printing;
+
+pub use answer::{Answer, PointLine};
+pub use printing::print_answer;
+
+#[cfg(test)]
+mod tests;

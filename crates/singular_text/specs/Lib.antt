@@ -1,0 +1,5 @@
+pub mod Letters
+pub mod PolyText
+pub mod Printing
+pub mod Parts
+pub mod Problem

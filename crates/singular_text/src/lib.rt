@@ -1,0 +1,14 @@
+//! Problems and polynomials as texts.
+//!
+//! The input is a small part of Singular's language; polynomials are printed in one form and read in that form
+//! alone.
+#![tactic(auto)]
+
+mod letters;
+mod printing;
+
+pub use letters::Letters;
+pub use printing::{print_bytes, print_number, print_poly};
+
+#[cfg(test)]
+mod tests;

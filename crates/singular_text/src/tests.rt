@@ -1,0 +1,91 @@
+// Texts written by hand.
+ghost use Rattle.std.specs.Prelude.{◌≡◌, IfOk};
+
+use crate::{Letters, print_poly};
+use monomials::Mono;
+use norm_outside::List;
+use polys::{Poly, Term};
+use prime_field::Prime;
+use std::alloc::Global;
+use std::test::Fail;
+
+// The monomial x^i y^j.
+fn mono(i: u32, j: u32) -> Result<Mono, Fail> {
+    let mut mono = Mono::one();
+    for (v, exponent) in [(0, i), (1, j)] {
+        for _ in 0..exponent {
+            if mono.degree() >= 60000 {
+                return Err("the degree is too high".into());
+            }
+            mono = Mono::product(&mono, &Mono::var(v));
+        }
+    }
+    Ok(mono)
+}
+
+// The sum of the terms c x^i y^j, given as (c, i, j).
+fn polynomial(alloc: Global, p: Prime, terms: &[(u32, u32, u32)]) -> Result<Poly, Fail>
+    ensures { IfOk result (λ f. f.prime ≡ p) }
+{
+    let mut sum = Poly::zero(alloc, p);
+    for (c, i, j) in terms {
+        let term = Term {
+            coeff: c % p.get(),
+            mono: mono(*i, *j)?,
+        };
+        sum = sum.add(&Poly::from_term(alloc, p, term)?)?;
+    }
+    Ok(sum)
+}
+
+#[test]
+fn letters_are_one_to_six_and_distinct(rt: HostRuntime) {
+    for known in ["x", "X", "xy", "xyzuvw", "xXyYzZ"] {
+        let letters = Letters::new(known.as_bytes());
+        assert!(rt;
+            letters.is_some_and(|l| l.as_slice() == known.as_bytes()),
+            "at {known}"
+        );
+    }
+    for unknown in [
+        "", "xyzuvwa", "xx", "xyx", "x1", "x ", "_", "@", "[", "`", "{",
+    ] {
+        assert!(rt; Letters::new(unknown.as_bytes()).is_none(), "at {unknown}");
+    }
+}
+
+#[test]
+fn polynomials_have_one_text(rt: HostRuntime) -> Result<(), Fail> {
+    let letters = Letters::new(b"xy").ok_or("letters")?;
+    for (p, terms, text) in [
+        (
+            7,
+            [(1, 3, 0), (2, 2, 0), (4, 1, 0)].as_slice(),
+            "x^3+2*x^2-3*x",
+        ),
+        (7, [(6, 1, 0), (1, 0, 0)].as_slice(), "-x+1"),
+        (7, [].as_slice(), "0"),
+        (7, [(1, 0, 0)].as_slice(), "1"),
+        (7, [(6, 0, 0)].as_slice(), "-1"),
+        (7, [(3, 0, 0)].as_slice(), "3"),
+        (7, [(4, 0, 2)].as_slice(), "-3*y^2"),
+        (2, [(1, 1, 1), (1, 0, 2)].as_slice(), "x*y+y^2"),
+        (32003, [(1, 2, 0), (21336, 1, 0)].as_slice(), "x^2-10667*x"),
+        (32003, [(7112, 1, 0), (1, 0, 2)].as_slice(), "y^2+7112*x"),
+        (
+            7,
+            [(1, 2, 0), (4, 0, 2), (6, 1, 0)].as_slice(),
+            "x^2-3*y^2-x",
+        ),
+        (7, [(1, 12, 0), (6, 1, 10)].as_slice(), "x^12-x*y^10"),
+    ] {
+        let prime = Prime::new(p).ok_or("prime")?;
+        let poly = polynomial(rt.alloc(), prime, terms)?;
+        let mut out = List::new(rt.alloc());
+        out.push(b':')?;
+        print_poly(&letters, &poly, &mut out)?;
+        assert_eq!(rt; out.as_slice()[0], b':');
+        assert_eq!(rt; &out.as_slice()[1..], text.as_bytes());
+    }
+    Ok(())
+}
