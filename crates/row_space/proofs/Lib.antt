@@ -1,0 +1,11 @@
+pub mod Weights
+pub mod Members
+pub mod Rest
+pub mod Adding
+pub mod Written
+pub mod Gathering
+pub mod Spaces
+pub mod Together
+pub mod RightParts
+pub mod Images
+pub mod Finding

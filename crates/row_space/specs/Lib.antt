@@ -1,0 +1,4 @@
+pub mod Sums
+pub mod Echelon
+pub mod Subspace
+pub mod Insertion
