@@ -94,23 +94,23 @@ module _ (R : CommRing) (I : List R.carrier) where
       let q : PointOver ops I d a.1 = subst (PointOver ops I d) a.3 (h a.0 a.1 a.2) in
       (a.0, a.1, a.2, a.3, λ x. ((λ w. apart P x ((a.4 x).0 ((held a.1 q.0 x).0 w))), λ w. (held a.1 q.0 x).1 ((a.4 x).1 (together P x w))))
 
-  turned : (d x : carrier) → InIdeal ops (I ++ d ∷ []) x → InIdeal ops ((d ∷ []) ++ I) x
+  pub turned : (d x : carrier) → InIdeal ops (I ++ d ∷ []) x → InIdeal ops ((d ∷ []) ++ I) x
   turned d x h = Ideals.ideal_least R (InIdeal ops ((d ∷ []) ++ I)) (Ideals.ideal_of_list R ((d ∷ []) ++ I)) (I ++ d ∷ [])
       (All-append (InIdeal ops ((d ∷ []) ++ I)) I (d ∷ [])
       (λ k e l. Modules.span_right R (Modules.own R) (d ∷ []) I _ (Ideals.generators_in R I k e l))
       (λ k e l. Modules.span_left R (Modules.own R) (d ∷ []) I _ (Ideals.generators_in R (d ∷ []) k e l))) x h
 
-  turned_back : (d x : carrier) → InIdeal ops ((d ∷ []) ++ I) x → InIdeal ops (I ++ d ∷ []) x
+  pub turned_back : (d x : carrier) → InIdeal ops ((d ∷ []) ++ I) x → InIdeal ops (I ++ d ∷ []) x
   turned_back d x h = Ideals.ideal_least R (InIdeal ops (I ++ d ∷ [])) (Ideals.ideal_of_list R (I ++ d ∷ [])) ((d ∷ []) ++ I)
       (All-append (InIdeal ops (I ++ d ∷ [])) (d ∷ []) I
       (λ k e l. Modules.span_right R (Modules.own R) I (d ∷ []) _ (Ideals.generators_in R (d ∷ []) k e l))
       (λ k e l. Modules.span_left R (Modules.own R) I (d ∷ []) _ (Ideals.generators_in R I k e l))) x h
 
-  regular_of_curve : (d : carrier) → RegularOver ops I d → Regular (curve_ops ops I) d
+  pub regular_of_curve : (d : carrier) → RegularOver ops I d → Regular (curve_ops ops I) d
   regular_of_curve d r x h = ideal.resp x (x ⊕ neg 𝟘) (ring R (x ∷ []) (search quote depth 20) tt)
       (r x (ideal.resp ((d ⊗ x) ⊕ neg 𝟘) (d ⊗ x) (ring R (d ∷ x ∷ []) (search quote depth 20) tt) h))
 
-  map_to_curve : (O : CommRing) (f : O.carrier → carrier) → IsRingMap O.ops ops f → IsRingMap O.ops (curve_ops ops I) f
+  pub map_to_curve : (O : CommRing) (f : O.carrier → carrier) → IsRingMap O.ops ops f → IsRingMap O.ops (curve_ops ops I) f
   map_to_curve O f m = record {
     resp = λ x y e. Ideals.equal_modulo R (InIdeal ops I) ideal (f x) (f y) (m.resp x y e);
     one = Ideals.equal_modulo R (InIdeal ops I) ideal (f O.𝟙) 𝟙 m.one;
@@ -118,7 +118,7 @@ module _ (R : CommRing) (I : List R.carrier) where
     mul = λ x y. Ideals.equal_modulo R (InIdeal ops I) ideal (f (O.◌⊗◌ x y)) (f x ⊗ f y) (m.mul x y);
   }
 
-  dimension_of_curve : (scalar : ℕ → carrier) (d : carrier) (n : ℕ) → Dimension (space_over ops I scalar d) n
+  pub dimension_of_curve : (scalar : ℕ → carrier) (d : carrier) (n : ℕ) → Dimension (space_over ops I scalar d) n
       → Dimension (modulo (module_through (curve_ops ops I) scalar) (InIdeal (curve_ops ops I) (d ∷ []))) n
   dimension_of_curve scalar d n D = (
     D.0,

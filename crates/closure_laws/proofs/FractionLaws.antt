@@ -27,7 +27,7 @@ module _ (Q : CommRing) (d : Q.carrier) (cancel : (x : Q.carrier) → Q.◌≈�
   abbrev K : Setting
   K = setting Q d cancel
 
-  pow_frac : (a : carrier) (k j : ℕ) → Eq Q d cancel (pow (Fr Q d cancel).ops (a, k) j) (pow Q.ops a j, k * j)
+  pub pow_frac : (a : carrier) (k j : ℕ) → Eq Q d cancel (pow (Fr Q d cancel).ops (a, k) j) (pow Q.ops a j, k * j)
   unfolding pow
   pow_frac a k zero = let e : k * 0 ≡ 0 = omega arith in subst (λ n. Eq Q d cancel (𝟙, 0) (𝟙, n)) (sym e) (rfl _)
   pow_frac a k (suc j) = let e : k + k * j ≡ k * suc j = omega arith in

@@ -6,3 +6,7 @@ pub mod Integral
 pub mod Local
 pub mod Point
 pub mod Unit
+pub mod Laws
+pub mod Rings
+pub mod Quotient
+pub mod Enlarging

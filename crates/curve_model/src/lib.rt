@@ -2,6 +2,7 @@
 #![tactic(auto)]
 
 mod examples;
+pub mod laws;
 mod point;
 
 pub use examples::{

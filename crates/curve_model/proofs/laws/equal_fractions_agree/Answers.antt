@@ -1,0 +1,5 @@
+use Rattle.curve_model.proofs.StatedLaws.{equal_law}
+use Rattle.curve_model.proofs.laws.equal_fractions_agree.Goals as goal
+
+pub returns : goal.returns
+returns c = equal_law

@@ -1,0 +1,90 @@
+// The laws of fractions over a curve: each function has an empty body, and its contract is the law.
+ghost use Rattle.curve_model.specs.Laws.{
+  EqualFractionsAgree,
+  OnePowerServes,
+  FractionsAreClosed,
+  LocalAtIsClosed,
+  AllPointsSuffice,
+  LocalIsSumOfParts,
+  PartsAreDirect,
+  LocalAtNone,
+  NoPoints,
+  DeltaBoundsPower,
+};
+ghost use Rattle.curve_model.specs.Rings.{DescentLaw};
+ghost use Rattle.curve_model.specs.Enlarging.{Enlargement, FullIsLocal, BasisCountsDelta, MembersAreLocal};
+ghost use Rattle.curve_model.specs.Quotient.{CoordinatesAreUnique, MembershipIsDecided, PowersHaveDimension};
+
+/// Equal fractions are integral together, and local at a list of polynomials together.
+pub fn equal_fractions_agree()
+    ensures { EqualFractionsAgree }
+{}
+
+/// A fraction is integral exactly where one power of the denominator serves for all its powers.
+pub fn one_power_serves()
+    ensures { OnePowerServes }
+{}
+
+/// Integral fractions are closed under sums and products, and so are local ones.
+pub fn fractions_are_closed()
+    ensures { FractionsAreClosed }
+{}
+
+/// Fractions that are local at a list of points are closed under sums and products.
+pub fn fractions_local_at_points_are_closed()
+    ensures { LocalAtIsClosed }
+{}
+
+/// Where a list has all points, a fraction is integral exactly where it is local at the list.
+pub fn all_points_suffice()
+    ensures { AllPointsSuffice }
+{}
+
+/// At distinct points a fraction is local exactly where it is a sum of one of A and of fractions, one local at each point.
+pub fn local_fractions_split()
+    ensures { LocalIsSumOfParts }
+{}
+
+/// That sum is direct modulo A.
+pub fn parts_are_direct()
+    ensures { PartsAreDirect }
+{}
+
+/// At no point the local fractions are those of A; where there is no point, the integral ones are.
+pub fn without_points_nothing_is_new()
+    ensures local { LocalAtNone }
+    ensures integral { NoPoints }
+{}
+
+/// A finite delta bounds the power: each fraction that is local at the point equals some b over d^delta.
+pub fn delta_bounds_the_power()
+    ensures { DeltaBoundsPower }
+{}
+
+/// Descent: a ring of fractions over one power of the denominator that holds A and cannot be enlarged at a point has every
+/// fraction that is local there.
+pub fn full_rings_have_the_local_fractions()
+    ensures { DescentLaw }
+{}
+
+/// Modulo an ideal of finite dimension coordinates by a shortest spanning list are unique, and membership is decided;
+/// modulo I and d^t the dimension is t times that modulo I and d.
+pub fn finite_quotients_have_coordinates()
+    ensures unique { CoordinatesAreUnique }
+    ensures decided { MembershipIsDecided }
+    ensures powers { PowersHaveDimension }
+{}
+
+/// What takes the radical of a ring of local fractions into itself is a ring that holds it, lies over the next power of the
+/// denominator, and is local; a ring that cannot be enlarged has exactly the local fractions.
+pub fn local_rings_are_enlarged()
+    ensures enlarged { Enlargement }
+    ensures full { FullIsLocal }
+{}
+
+/// A basis modulo A of a ring that cannot be enlarged counts delta, and independent members of any ring of local fractions
+/// are that many independent local fractions.
+pub fn delta_is_counted()
+    ensures basis { BasisCountsDelta }
+    ensures members { MembersAreLocal }
+{}
