@@ -13,13 +13,13 @@ use Rattle.polys.specs.Ideal.{InIdeal}
 use Rattle.polys.specs.Curve.{CurveData}
 use Rattle.polys.specs.Ring.{Member}
 use Rattle.curve_model.specs.Fraction.{Fraction, IsFraction, AreEqual, denominator_power}
-use Rattle.curve_model.specs.Laws.{IsFinite}
+use Rattle.curve_model.specs.Laws.{IsRegular}
 use Rattle.curve_model.proofs.Members.{R, lift, ideal_from, ideal_to}
 
 pub above_one : (p : ℕ) → IsPrime p → 1 < p
 above_one p prime = let l : 2 ≤ p = prime.0 in omega arith
 
-module _ (A : CurveData) (c : IsFinite A) where
+module _ (A : CurveData) (c : IsRegular A) where
   abbrev pub p : ℕ
   p = A.prime
 

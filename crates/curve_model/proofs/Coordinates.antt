@@ -145,7 +145,7 @@ decided_law p n prime gs a N D f h = decided p n prime gs a N D (record { terms 
 
 module _ (A : CurveData) (c : IsFinite A) where
   above : 0 < A.prime
-  above = positive_of_prime A.prime c.prime
+  above = positive_of_prime A.prime c.curve.prime
 
   reduced-numbers : (cs : List ℕ) (vs : List (List Term)) → All (IsPoly A.prime A.variables) vs → number_combination A.prime (map (λ e. e % A.prime) cs) vs ≡ number_combination A.prime cs vs
   reduced-numbers [] vs h = refl
@@ -160,27 +160,27 @@ module _ (A : CurveData) (c : IsFinite A) where
   below [] = All-nil (λ e. e < A.prime)
   below (e ∷ cs) = All-cons (λ b. b < A.prime) (e % A.prime) (map (λ b. b % A.prime) cs) (mod-lt e above) (below cs)
 
-  abbrev apart_from : Base.Poly A c → List ℕ → List (Base.Poly A c) → Base.Poly A c
-  apart_from f cs us = (Base.Ring A c).◌⊕◌ f ((Base.Ring A c).neg (combination (module_through (Base.Ring A c).ops (Scalars.scalar A c)) cs us))
+  abbrev apart_from : Base.Poly A c.curve → List ℕ → List (Base.Poly A c.curve) → Base.Poly A c.curve
+  apart_from f cs us = (Base.Ring A c.curve).◌⊕◌ f ((Base.Ring A c.curve).neg (combination (module_through (Base.Ring A c.curve).ops (Scalars.scalar A c)) cs us))
 
   powers : (t : ℕ) → HasDim A.prime A.variables (denominator_power A t ∷ A.ideal) (c.dimension.0 * t)
   powers t =
-      let D = (Scalars.laws A c).powers c.dimension.0 (CurveLaws.dimension_of_curve (Base.Ring A c) (Base.I A c) (Scalars.scalar A c) (Base.d A c) c.dimension.0 (Scalars.dimension A c)) t in
+      let D = (Scalars.laws A c).powers c.dimension.0 (CurveLaws.dimension_of_curve (Base.Ring A c.curve) (Base.I A c.curve) (Scalars.scalar A c) (Base.d A c.curve) c.dimension.0 (Scalars.dimension A c)) t in
       record {
         basis = terms_of D.0;
         as_many = length-map D.0 (λ g. g.terms) ∙ D.1;
         spans = record {
           polys = polys_of A.prime A.variables D.0;
           each = λ f h.
-              let m = Base.member A c f h in
-              let s = D.3 (Base.member A c f h) tt in
+              let m = Base.member A c.curve f h in
+              let s = D.3 (Base.member A c.curve f h) tt in
               record {
                 residues = map (λ e. e % A.prime) s.0;
                 below = below s.0;
                 as_many = length-map s.0 (λ e. e % A.prime) ∙ s.1 ∙ sym (length-map D.0 (λ g. g.terms));
                 close = subst (InIdeal A.prime A.variables (denominator_power A t ∷ A.ideal))
                     (ap (sub A.prime f) (Scalars.combination-numbers A c s.0 D.0 ∙ sym (reduced-numbers s.0 (terms_of D.0) (polys_of A.prime A.variables D.0))))
-                    (taken_down A c t (apart_from (Base.member A c f h) s.0 D.0) s.2);
+                    (taken_down A c.curve t (apart_from (Base.member A c.curve f h) s.0 D.0) s.2);
               };
         };
         least = λ vs l s. D.4 (lift A.prime A.variables vs s.polys) (λ k e b. tt)
@@ -188,7 +188,7 @@ module _ (A : CurveData) (c : IsFinite A) where
             (λ f h. let w = s.each f.terms f.is_poly in (
               w.residues,
               w.as_many ∙ sym (length-lift A.prime A.variables vs s.polys),
-              taken_up A c t (apart_from f w.residues (lift A.prime A.variables vs s.polys))
+              taken_up A c.curve t (apart_from f w.residues (lift A.prime A.variables vs s.polys))
                   (subst (InIdeal A.prime A.variables (denominator_power A t ∷ A.ideal))
                   (sym (ap (sub A.prime f.terms) (Scalars.combination-numbers A c w.residues (lift A.prime A.variables vs s.polys) ∙ ap (number_combination A.prime w.residues) (terms-lift A.prime A.variables vs s.polys)))) w.close),
             ));

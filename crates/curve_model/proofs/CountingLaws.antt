@@ -28,7 +28,8 @@ use Rattle.curve_model.proofs.Locals.{local_up}
 use Rattle.curve_model.proofs.Scalars.{scalar, laws}
 use Rattle.curve_model.proofs.StatedLaws.{frac, sum_poly, sum-frac}
 use Rattle.curve_model.proofs.SplitLaws.{Frac, unfrac, frac_all, in_up, in_down}
-use Rattle.curve_model.proofs.DeltaLaws.{scal, multiple_poly, combination_poly, combination-frac, curve_map, regular_curve}
+use Rattle.curve_model.proofs.DeltaLaws.{scal, multiple_poly, combination_poly, combination-frac, curve_map}
+use Rattle.curve_model.proofs.Regulars.{regular_curve}
 use Rattle.curve_model.proofs.DescentLaws.{module_up, module_down, full_up}
 use Rattle.curve_model.proofs.EnlargingLaws.{B', P', L', point', local_ring, enlarged}
 
@@ -50,22 +51,22 @@ module _ (A : CurveData) (c : IsFinite A) where
   length-frac_all fs h = sym (length-map (frac_all A c fs h) (unfrac A c)) ∙ ap length (unfrac_all fs h)
 
   low_up : (fs : List Fraction) (h : All (IsFraction A) fs) → AreIndependent A fs → (cs : List ℕ) → length cs ≡ length (frac_all A c fs h) → EachN (λ e. e < A.prime) cs
-      → Fr.InA (Q A c) (d A c) (comb_of (Fr.fraction_ops (Q A c) (d A c)) (scal A c) cs (frac_all A c fs h)) → EachN (λ e. e ≡ 0) cs
+      → Fr.InA (Q A c.curve) (d A c.curve) (comb_of (Fr.fraction_ops (Q A c.curve) (d A c.curve)) (scal A c) cs (frac_all A c fs h)) → EachN (λ e. e ≡ 0) cs
   low_up fs h i cs l s w = zeros cs (i cs (each A.prime cs s) (l ∙ length-frac_all fs h)
       (subst (λ g. InA A (Delta.combination A cs g)) (unfrac_all fs h)
       (in_down A c (Delta.combination A cs (map (unfrac A c) (frac_all A c fs h))) (combination_poly A c cs (frac_all A c fs h))
-      (subst (Fr.InA (Q A c) (d A c)) (combination_is (Fr.fraction_ops (Q A c) (d A c)) (scal A c) cs (frac_all A c fs h) ∙ combination-frac A c cs (frac_all A c fs h)) w))))
+      (subst (Fr.InA (Q A c.curve) (d A c.curve)) (combination_is (Fr.fraction_ops (Q A c.curve) (d A c.curve)) (scal A c) cs (frac_all A c fs h) ∙ combination-frac A c cs (frac_all A c fs h)) w))))
 
-  independent_up : (fs : List Fraction) (h : All (IsFraction A) fs) → AreIndependent A fs → Independent (residue_ops A.prime) (Fr.fraction_space (Q A c) (d A c) A.prime (scalar A c)) (frac_all A c fs h)
-  independent_up fs h i = Independence.independent_out (Curve A c) (d A c) (regular_curve A c) A.prime c.prime (scalar A c) (curve_map A c) (frac_all A c fs h) (low_up fs h i)
+  independent_up : (fs : List Fraction) (h : All (IsFraction A) fs) → AreIndependent A fs → Independent (residue_ops A.prime) (Fr.fraction_space (Q A c.curve) (d A c.curve) A.prime (scalar A c)) (frac_all A c fs h)
+  independent_up fs h i = Independence.independent_out (Curve A c.curve) (d A c.curve) (regular_curve A c.curve) A.prime c.curve.prime (scalar A c) (curve_map A c) (frac_all A c fs h) (low_up fs h i)
 
-  locals_up : (P : List (List Term)) (q : ArePolys A P) (fs : List Fraction) (h : All (IsFraction A) fs) → All (Local A P) fs → All (λ x. Fr.LocalTo (Q A c) (d A c) (Contains (lift A.prime A.variables P q)) x.0 x.1) (frac_all A c fs h)
+  locals_up : (P : List (List Term)) (q : ArePolys A P) (fs : List Fraction) (h : All (IsFraction A) fs) → All (Local A P) fs → All (λ x. Fr.LocalTo (Q A c.curve) (d A c.curve) (Contains (lift A.prime A.variables P q)) x.0 x.1) (frac_all A c fs h)
   unfolding frac_all
   locals_up P q [] h w = All-nil _
-  locals_up P q (f ∷ fs) h w = All-cons (λ x. Fr.LocalTo (Q A c) (d A c) (Contains (lift A.prime A.variables P q)) x.0 x.1) (frac A c f (All-head (IsFraction A) f fs h)) (frac_all A c fs (All-tail (IsFraction A) f fs h))
-      (local_up A c P q f (All-head (IsFraction A) f fs h) (All-head (Local A P) f fs w)) (locals_up P q fs (All-tail (IsFraction A) f fs h) (All-tail (Local A P) f fs w))
+  locals_up P q (f ∷ fs) h w = All-cons (λ x. Fr.LocalTo (Q A c.curve) (d A c.curve) (Contains (lift A.prime A.variables P q)) x.0 x.1) (frac A c f (All-head (IsFraction A) f fs h)) (frac_all A c fs (All-tail (IsFraction A) f fs h))
+      (local_up A c.curve P q f (All-head (IsFraction A) f fs h) (All-head (Local A P) f fs w)) (locals_up P q fs (All-tail (IsFraction A) f fs h) (All-tail (Local A P) f fs w))
 
-  has_independent_up : (P : List (List Term)) (q : ArePolys A P) (r : ℕ) → HasIndependent A P r → Fr.LocalIndependent (Q A c) (d A c) A.prime (scalar A c) (lift A.prime A.variables P q) r
+  has_independent_up : (P : List (List Term)) (q : ArePolys A P) (r : ℕ) → HasIndependent A P r → Fr.LocalIndependent (Q A c.curve) (d A c.curve) A.prime (scalar A c) (lift A.prime A.variables P q) r
   has_independent_up P q r w = (frac_all A c w.fractions w.are_fractions, length-frac_all w.fractions w.are_fractions ∙ w.as_many, locals_up P q w.fractions w.are_fractions w.local, independent_up w.fractions w.are_fractions w.independent)
 
   module _ (P : List (List Term)) (point : IsPoint A P) (K : ℕ) (L : List (List Term)) (l : ArePolys A L) (w : IsLocalRing A P K L) where
@@ -97,9 +98,9 @@ module _ (A : CurveData) (c : IsFinite A) where
       xs = frac_all A c us b.fractions
 
       comb : List ℕ → Frac A c
-      comb cs = combination (module_through (Fr.fraction_ops (Q A c) (d A c)) (scal A c)) cs xs
+      comb cs = combination (module_through (Fr.fraction_ops (Q A c.curve) (d A c.curve)) (scal A c)) cs xs
 
-      spans_up : (x : Frac A c) → Up x → (cs : List ℕ) × (length cs ≡ length xs) × Fr.InA (Q A c) (d A c) ((Fr.fraction_ops (Q A c) (d A c)).◌⊕◌ x ((Fr.fraction_ops (Q A c) (d A c)).neg (combination (module_through (Fr.fraction_ops (Q A c) (d A c)) (scal A c)) cs xs)))
+      spans_up : (x : Frac A c) → Up x → (cs : List ℕ) × (length cs ≡ length xs) × Fr.InA (Q A c.curve) (d A c.curve) ((Fr.fraction_ops (Q A c.curve) (d A c.curve)).◌⊕◌ x ((Fr.fraction_ops (Q A c.curve) (d A c.curve)).neg (combination (module_through (Fr.fraction_ops (Q A c.curve) (d A c.curve)) (scal A c)) cs xs)))
       spans_up x h =
           let s = b.spans (unfrac A c x) x.0.is_poly (module_down A c K L l x h) in
           let cs : List ℕ = s.0 in
@@ -108,22 +109,22 @@ module _ (A : CurveData) (c : IsFinite A) where
           let e : map (unfrac A c) xs ≡ us = unfrac_all us b.fractions in (
             cs,
             s.2 ∙ sym (length-frac_all us b.fractions),
-            subst (λ y. Fr.InA (Q A c) (d A c) ((Fr.fraction_ops (Q A c) (d A c)).◌⊕◌ x ((Fr.fraction_ops (Q A c) (d A c)).neg y))) (sym (combination-frac A c cs xs))
-                (subst (Fr.InA (Q A c) (d A c)) (sym (sum-frac A c (unfrac A c x) (multiple_of A (A.prime - 1) g) x.0.is_poly (multiple_poly A c (A.prime - 1) g gp)))
+            subst (λ y. Fr.InA (Q A c.curve) (d A c.curve) ((Fr.fraction_ops (Q A c.curve) (d A c.curve)).◌⊕◌ x ((Fr.fraction_ops (Q A c.curve) (d A c.curve)).neg y))) (sym (combination-frac A c cs xs))
+                (subst (Fr.InA (Q A c.curve) (d A c.curve)) (sym (sum-frac A c (unfrac A c x) (multiple_of A (A.prime - 1) g) x.0.is_poly (multiple_poly A c (A.prime - 1) g gp)))
                 (in_up A c (difference_of A (unfrac A c x) g) (sum_poly A c (unfrac A c x) (multiple_of A (A.prime - 1) g) x.0.is_poly (multiple_poly A c (A.prime - 1) g gp)) (subst (λ z. InA A (difference_of A (unfrac A c x) (Delta.combination A cs z))) (sym e) s.3))),
           )
 
-      basis_up : IsBasis (residue_ops A.prime) (Fr.fraction_space (Q A c) (d A c) A.prime (scalar A c)) Up xs
+      basis_up : IsBasis (residue_ops A.prime) (Fr.fraction_space (Q A c.curve) (d A c.curve) A.prime (scalar A c)) Up xs
       basis_up = (members_up us b.fractions b.members, spans_up, independent_up us b.fractions b.independent)
 
       counts : IsFull A P B → HasDelta A P (length us)
       counts full =
-          let D = dimension_of_basis (Independence.K (Curve A c) (d A c) (regular_curve A c) A.prime c.prime (scalar A c) (curve_map A c)) (residue_field A.prime c.prime)
-          (Independence.FractionSpace (Curve A c) (d A c) (regular_curve A c) A.prime c.prime (scalar A c) (curve_map A c)) Up xs basis_up in
+          let D = dimension_of_basis (Independence.K (Curve A c.curve) (d A c.curve) (regular_curve A c.curve) A.prime c.curve.prime (scalar A c) (curve_map A c)) (residue_field A.prime c.curve.prime)
+          (Independence.FractionSpace (Curve A c.curve) (d A c.curve) (regular_curve A c.curve) A.prime c.curve.prime (scalar A c) (curve_map A c)) Up xs basis_up in
           let delta = (laws A c).counts (P' A c P point K L l w) (point' A c P point K L l w) K (L' A c P point K L l w) (local_ring A c P point K L l w) (full_up A c K L l P point.reduced.polys full) (length xs) D in
           record {
             reached = members us b.fractions b.members b.independent;
-            no_more = λ m. delta.1 (subst (λ r. Fr.LocalIndependent (Q A c) (d A c) A.prime (scalar A c) (P' A c P point K L l w) (suc r)) (sym (length-frac_all us b.fractions)) (has_independent_up P point.reduced.polys (suc (length us)) m));
+            no_more = λ m. delta.1 (subst (λ r. Fr.LocalIndependent (Q A c.curve) (d A c.curve) A.prime (scalar A c) (P' A c P point K L l w) (suc r)) (sym (length-frac_all us b.fractions)) (has_independent_up P point.reduced.polys (suc (length us)) m));
           }
 
 pub counts_law : BasisCountsDelta

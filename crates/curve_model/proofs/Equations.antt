@@ -12,7 +12,7 @@ use Rattle.polys.specs.Ideal.{InIdeal}
 use Rattle.polys.specs.Curve.{CurveData}
 use Rattle.curve_model.specs.Fraction.{Fraction, IsFraction, denominator_power}
 use Rattle.curve_model.specs.Integral.{Integral, lower_sum, monic_sum}
-use Rattle.curve_model.specs.Laws.{IsFinite}
+use Rattle.curve_model.specs.Laws.{IsRegular}
 use Rattle.curve_model.proofs.Members.{terms_of, lift, terms-lift, polys_of, ideal_from, ideal_to}
 use Rattle.curve_model.proofs.Chains.{chain, flip, from_zero, of_zero}
 use Rattle.curve_model.proofs.Base.{high, Ring, Poly, I, d, Q, Curve, member, pow-curve, pow_d}
@@ -66,7 +66,7 @@ module _ (C : CommRing) where
       (trans (ring C (a ∷ c ∷ pow ops a (length (rev cs)) ∷ low a e 1 (rev cs) ∷ pow ops e (1 + length (rev cs)) ∷ []) (search quote depth 20) tt)
       (add_cong (mul_cong (rfl a) (whole_is_monic z a e cs)) (mul_cong (rfl c) (Derived.pow_same C e (1 + length (rev cs)) (suc (length cs)) (let q : length (rev cs) ≡ length cs = length-rev cs in omega arith)))))
 
-module _ (A : CurveData) (c : IsFinite A) where
+module _ (A : CurveData) (c : IsRegular A) where
   -- a member is 0 modulo I where it is in the ideal
   pub zero_up : (x : Poly A c) → InIdeal A.prime A.variables A.ideal x.terms → (Q A c).◌≈◌ x (Q A c).𝟘
   zero_up x i = from_zero (Ring A c) (Ideals.InIdeal (Ring A c).ops (I A c)) (IdealLaws.ideal_of_list (Ring A c) (I A c)) x (ideal_from A.prime A.variables (high A c) A.ideal c.ideal x i)

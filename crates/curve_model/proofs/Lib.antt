@@ -10,6 +10,7 @@ pub mod Chains
 pub mod Base
 pub mod Equations
 pub mod Locals
+pub mod Regulars
 pub mod Scalars
 pub mod StatedLaws
 pub mod ManyPoints

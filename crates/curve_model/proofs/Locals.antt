@@ -14,7 +14,7 @@ use Rattle.polys.specs.Curve.{CurveData}
 use Rattle.polys.specs.Ring.{Member}
 use Rattle.curve_model.specs.Fraction.{Fraction, IsFraction, denominator_power}
 use Rattle.curve_model.specs.Local.{Local}
-use Rattle.curve_model.specs.Laws.{IsFinite}
+use Rattle.curve_model.specs.Laws.{IsRegular}
 use Rattle.curve_model.proofs.Members.{terms_of, lift, terms-lift, ideal_up, ideal_down}
 use Rattle.curve_model.proofs.Facts.{contains_terms, contains_member}
 use Rattle.curve_model.proofs.Chains.{multiple_in, multiple_out}
@@ -42,7 +42,7 @@ contained_down p n P a (f ∷ l) h = All-cons (Contains P) f.terms (terms_of l)
 pub length-lift : (p n : ℕ) (l : List (List Term)) (b : All (IsPoly p n) l) → length (lift p n l b) ≡ length l
 length-lift p n l b = sym (length-map (lift p n l b) (λ g. g.terms)) ∙ ap length (terms-lift p n l b)
 
-module _ (A : CurveData) (c : IsFinite A) where
+module _ (A : CurveData) (c : IsRegular A) where
   pub product-terms : (l : List (Poly A c)) → (Sums.product (Q A c) (λ x. x) l).terms ≡ product A.prime (terms_of l)
   unfolding joined
   product-terms [] = refl

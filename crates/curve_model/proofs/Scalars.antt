@@ -10,7 +10,7 @@ use Rattle.comm_ring.proofs.Fields.{positive_of_prime, residue_coefficients}
 use Rattle.comm_ring.proofs.Ideals as IdealLaws
 use Rattle.comm_ring.proofs.Modules.{Module, through}
 use Rattle.comm_ring.proofs.Quotients.{quotient}
-use Rattle.closure_laws.specs.Curves.{RegularOver, space_over}
+use Rattle.closure_laws.specs.Curves.{space_over}
 use Rattle.closure_laws.specs.Laws.{FractionLaws}
 use Rattle.closure_laws.proofs.CurveLaws as CurveLaws
 use Rattle.monomials.specs.Mono.{unit}
@@ -22,8 +22,9 @@ use Rattle.polys.proofs.Weights.{Alike, weigh, normal_ext}
 use Rattle.polys.proofs.Sums.{add_normal_left, add_normal_right, mul_normal_left, mul_normal_right}
 use Rattle.polys.proofs.Affine.{constant, poly_constant, mul_constant, sevens_of, positive}
 use Rattle.curve_model.specs.Laws.{IsFinite}
-use Rattle.curve_model.proofs.Members.{terms_of, lift, terms-lift, polys_of, ideal_up, ideal_down, ideal_from, ideal_to}
+use Rattle.curve_model.proofs.Members.{terms_of, lift, terms-lift, polys_of, ideal_up, ideal_down}
 use Rattle.curve_model.proofs.Locals.{length-lift}
+use Rattle.curve_model.proofs.Regulars.{regular}
 use Rattle.curve_model.proofs.Base.{high, Ring, Poly, I, d, Q, member}
 
 -- the number as a term
@@ -48,16 +49,16 @@ constant_product p h x y = normal_ext p (at_unit ((x * y) % p) ∷ []) (products
 
 module _ (A : CurveData) (c : IsFinite A) where
   pub above : 0 < A.prime
-  above = positive A.prime (high A c)
+  above = positive A.prime (high A c.curve)
 
   -- the constant polynomial
-  abbrev pub scalar : ℕ → Poly A c
+  abbrev pub scalar : ℕ → Poly A c.curve
   scalar e = record { terms = constant A.prime e; is_poly = poly_constant A.prime A.variables e above }
 
-  pub scalar_map : IsRingMap (residue_ops A.prime) (Ring A c).ops scalar
+  pub scalar_map : IsRingMap (residue_ops A.prime) (Ring A c.curve).ops scalar
   scalar_map = record {
     resp = λ x y e. ap (λ r. keep r unit []) e;
-    one = ap (λ r. keep r unit []) (mod-eq_of_lt (high A c));
+    one = ap (λ r. keep r unit []) (mod-eq_of_lt (high A c.curve));
     add = constant_sum A.prime above;
     mul = constant_product A.prime above;
   }
@@ -65,38 +66,38 @@ module _ (A : CurveData) (c : IsFinite A) where
   -- ---- the dimension modulo d
 
   abbrev K : CommRing
-  K = residues A.prime (positive_of_prime A.prime c.prime)
+  K = residues A.prime (positive_of_prime A.prime c.curve.prime)
 
-  pub combination-numbers : (cs : List ℕ) (us : List (Poly A c)) → (combination (module_through (Ring A c).ops scalar) cs us).terms ≡ number_combination A.prime cs (terms_of us)
+  pub combination-numbers : (cs : List ℕ) (us : List (Poly A c.curve)) → (combination (module_through (Ring A c.curve).ops scalar) cs us).terms ≡ number_combination A.prime cs (terms_of us)
   unfolding combine
   combination-numbers [] us = refl
   combination-numbers (e ∷ cs) [] = refl
   combination-numbers (e ∷ cs) (u ∷ us) = ap₂ (add A.prime) (mul_constant A.prime e u.terms (sevens_of A.prime A.variables u.terms u.is_poly)) (combination-numbers cs us)
 
   abbrev Space : ModuleOps ℕ
-  Space = space_over (Ring A c).ops (I A c) scalar (d A c)
+  Space = space_over (Ring A c.curve).ops (I A c.curve) scalar (d A c.curve)
 
-  ideal : IsSubmodule (module_through (Ring A c).ops scalar) (Ideals.InIdeal (Ring A c).ops (I A c ++ (d A c ∷ [])))
-  ideal = let i = IdealLaws.ideal_of_list (Ring A c) (I A c ++ (d A c ∷ [])) in record { resp = i.resp; none = i.none; add = i.add; scale = λ e x h. i.scale (scalar e) x h }
+  ideal : IsSubmodule (module_through (Ring A c.curve).ops scalar) (Ideals.InIdeal (Ring A c.curve).ops (I A c.curve ++ (d A c.curve ∷ [])))
+  ideal = let i = IdealLaws.ideal_of_list (Ring A c.curve) (I A c.curve ++ (d A c.curve ∷ [])) in record { resp = i.resp; none = i.none; add = i.add; scale = λ e x h. i.scale (scalar e) x h }
 
   abbrev space : Module K
-  space = quotient K (through K (Ring A c) scalar scalar_map) (Ideals.InIdeal (Ring A c).ops (I A c ++ (d A c ∷ []))) ideal
+  space = quotient K (through K (Ring A c.curve) scalar scalar_map) (Ideals.InIdeal (Ring A c.curve).ops (I A c.curve ++ (d A c.curve ∷ []))) ideal
 
-  first : terms_of (d A c ∷ I A c) ≡ A.denominator ∷ A.ideal
-  first = ap (λ l. A.denominator ∷ l) (terms-lift A.prime A.variables A.ideal c.ideal)
+  first : terms_of (d A c.curve ∷ I A c.curve) ≡ A.denominator ∷ A.ideal
+  first = ap (λ l. A.denominator ∷ l) (terms-lift A.prime A.variables A.ideal c.curve.ideal)
 
-  in_up : (x : Poly A c) → InIdeal A.prime A.variables (A.denominator ∷ A.ideal) x.terms → Ideals.InIdeal (Ring A c).ops (I A c ++ (d A c ∷ [])) x
-  in_up x h = CurveLaws.turned_back (Ring A c) (I A c) (d A c) x
-      (ideal_up A.prime A.variables (high A c) (d A c ∷ I A c) x (subst (λ g. InIdeal A.prime A.variables g x.terms) (sym first) h))
+  in_up : (x : Poly A c.curve) → InIdeal A.prime A.variables (A.denominator ∷ A.ideal) x.terms → Ideals.InIdeal (Ring A c.curve).ops (I A c.curve ++ (d A c.curve ∷ [])) x
+  in_up x h = CurveLaws.turned_back (Ring A c.curve) (I A c.curve) (d A c.curve) x
+      (ideal_up A.prime A.variables (high A c.curve) (d A c.curve ∷ I A c.curve) x (subst (λ g. InIdeal A.prime A.variables g x.terms) (sym first) h))
 
-  in_down : (x : Poly A c) → Ideals.InIdeal (Ring A c).ops (I A c ++ (d A c ∷ [])) x → InIdeal A.prime A.variables (A.denominator ∷ A.ideal) x.terms
+  in_down : (x : Poly A c.curve) → Ideals.InIdeal (Ring A c.curve).ops (I A c.curve ++ (d A c.curve ∷ [])) x → InIdeal A.prime A.variables (A.denominator ∷ A.ideal) x.terms
   in_down x h = subst (λ g. InIdeal A.prime A.variables g x.terms) first
-      (ideal_down A.prime A.variables (high A c) (d A c ∷ I A c) x (CurveLaws.turned (Ring A c) (I A c) (d A c) x h))
+      (ideal_down A.prime A.variables (high A c.curve) (d A c.curve ∷ I A c.curve) x (CurveLaws.turned (Ring A c.curve) (I A c.curve) (d A c.curve) x h))
 
-  abbrev differ : Poly A c → List ℕ → List (Poly A c) → Poly A c
-  differ f cs us = (Ring A c).◌⊕◌ f ((Ring A c).neg (combination (module_through (Ring A c).ops scalar) cs us))
+  abbrev differ : Poly A c.curve → List ℕ → List (Poly A c.curve) → Poly A c.curve
+  differ f cs us = (Ring A c.curve).◌⊕◌ f ((Ring A c.curve).neg (combination (module_through (Ring A c.curve).ops scalar) cs us))
 
-  difference-terms : (f : Poly A c) (cs : List ℕ) (us : List (Poly A c)) → ((Ring A c).◌⊕◌ f ((Ring A c).neg (combination (module_through (Ring A c).ops scalar) cs us))).terms ≡ sub A.prime f.terms (number_combination A.prime cs (terms_of us))
+  difference-terms : (f : Poly A c.curve) (cs : List ℕ) (us : List (Poly A c.curve)) → ((Ring A c.curve).◌⊕◌ f ((Ring A c.curve).neg (combination (module_through (Ring A c.curve).ops scalar) cs us))).terms ≡ sub A.prime f.terms (number_combination A.prime cs (terms_of us))
   difference-terms f cs us = ap (sub A.prime f.terms) (combination-numbers cs us)
 
   pub dimension : Dimension Space c.dimension.0
@@ -116,20 +117,16 @@ module _ (A : CurveData) (c : IsFinite A) where
         λ vs a l s. D.least (terms_of vs) (subst (λ k. k < c.dimension.0) (sym (length-map vs (λ g. g.terms))) l) (record {
           polys = polys_of A.prime A.variables vs;
           each = λ f h.
-              let r = residue_coefficients A.prime (positive_of_prime A.prime c.prime) space vs (member A c f h) (s (member A c f h) tt) in
+              let r = residue_coefficients A.prime (positive_of_prime A.prime c.curve.prime) space vs (member A c.curve f h) (s (member A c.curve f h) tt) in
               record {
                 residues = r.0;
                 below = r.2;
                 as_many = r.1 ∙ sym (length-map vs (λ g. g.terms));
-                close = subst (InIdeal A.prime A.variables (A.denominator ∷ A.ideal)) (difference-terms (member A c f h) r.0 vs) (in_down (differ (member A c f h) r.0 vs) r.3);
+                close = subst (InIdeal A.prime A.variables (A.denominator ∷ A.ideal)) (difference-terms (member A c.curve f h) r.0 vs) (in_down (differ (member A c.curve f h) r.0 vs) r.3);
               };
         }),
       )
 
-  pub regular : RegularOver (Ring A c).ops (I A c) (d A c)
-  regular x h = ideal_from A.prime A.variables (high A c) A.ideal c.ideal x
-      (c.regular x.terms x.is_poly (ideal_to A.prime A.variables (high A c) A.ideal c.ideal ((Ring A c).◌⊗◌ (d A c) x) h))
-
   -- the laws of the ring modulo I
-  pub laws : FractionLaws (Q A c) (d A c) A.prime scalar
-  laws = CurveLaws.curve_laws (Ring A c) (I A c) (d A c) regular A.prime c.prime scalar scalar_map c.dimension.0 dimension
+  pub laws : FractionLaws (Q A c.curve) (d A c.curve) A.prime scalar
+  laws = CurveLaws.curve_laws (Ring A c.curve) (I A c.curve) (d A c.curve) (regular A c.curve) A.prime c.curve.prime scalar scalar_map c.dimension.0 dimension

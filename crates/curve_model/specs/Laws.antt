@@ -12,12 +12,16 @@ use Rattle.curve_model.specs.Local.{Local, LocalAt}
 use Rattle.curve_model.specs.Point.{IsPoint}
 use Rattle.curve_model.specs.Delta.{HasDelta}
 
--- what the laws ask of a curve: a prime, polynomials, a regular denominator, and a finite dimension modulo it
-pub record IsFinite (A : CurveData) : Type 0 where
+-- a curve with a regular denominator: a prime, and polynomials
+pub record IsRegular (A : CurveData) : Type 0 where
   pub prime : IsPrime A.prime
   pub ideal : All (IsPoly A.prime A.variables) A.ideal
   pub denominator : IsPoly A.prime A.variables A.denominator
   pub regular : HasRegular A
+
+-- what the laws ask of a curve: a regular denominator, and a finite dimension modulo it
+pub record IsFinite (A : CurveData) : Type 0 where
+  pub curve : IsRegular A
   pub dimension : (N : ℕ) × HasDimModulo A N
 
 -- a list of polynomials in the variables of A
@@ -27,7 +31,7 @@ ArePolys A P = All (IsPoly A.prime A.variables) P
 -- equal fractions are integral together, and local at a list of polynomials together
 abbrev pub EqualFractionsAgree : Type 0
 EqualFractionsAgree =
-    (A : CurveData) → IsFinite A → (f g : Fraction) → IsFraction A f → IsFraction A g → AreEqual A f g
+    (A : CurveData) → IsRegular A → (f g : Fraction) → IsFraction A f → IsFraction A g → AreEqual A f g
     → (Integral A f ↔ Integral A g) × ((P : List (List Term)) → ArePolys A P → Local A P f ↔ Local A P g)
 
 -- a^j over d^(kj)

@@ -1,4 +1,4 @@
-use Rattle.curve_model.proofs.StatedLaws.{equal_law}
+use Rattle.curve_model.proofs.Regulars.{equal_law}
 use Rattle.curve_model.proofs.laws.equal_fractions_agree.Goals as goal
 
 pub returns : goal.returns
