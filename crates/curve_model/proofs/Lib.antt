@@ -20,3 +20,4 @@ pub mod DescentLaws
 pub mod Coordinates
 pub mod EnlargingLaws
 pub mod CountingLaws
+pub mod LocalRingLaws

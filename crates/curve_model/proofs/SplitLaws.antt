@@ -9,17 +9,17 @@ use Rattle.closure_laws.specs.Fractions as Fr
 use Rattle.closure_laws.specs.Points as Pt
 use Rattle.polys.specs.declared.term.Term.{Term}
 use Rattle.polys.specs.Curve.{CurveData}
-use Rattle.curve_model.specs.Fraction.{Fraction, IsFraction, InA, over, sum_of, product_of}
+use Rattle.curve_model.specs.Fraction.{Fraction, IsFraction, InA, over, sum_of}
 use Rattle.curve_model.specs.Local.{Local, LocalAt}
 use Rattle.curve_model.specs.Point.{IsPoint}
-use Rattle.curve_model.specs.Laws.{IsFinite, ArePolys, total, SumOfParts, IsClosed, AllPointsSuffice, LocalIsSumOfParts, PartsAreDirect, LocalAtNone, NoPoints, LocalAtIsClosed}
+use Rattle.curve_model.specs.Laws.{IsFinite, ArePolys, total, SumOfParts, AllPointsSuffice, LocalIsSumOfParts, PartsAreDirect, LocalAtNone, NoPoints}
 use Rattle.curve_model.proofs.Facts.{same_member}
 use Rattle.curve_model.proofs.Chains.{power_none, over_none}
 use Rattle.curve_model.proofs.Base.{Ring, d, Q, Curve, member, equal_up, equal_down}
 use Rattle.curve_model.proofs.Equations.{integral_up}
 use Rattle.curve_model.proofs.Locals.{local_up, local_down}
 use Rattle.curve_model.proofs.Scalars.{laws}
-use Rattle.curve_model.proofs.StatedLaws.{frac, sum_poly, product_poly, sum-frac, product-frac, equals_up, equals_down}
+use Rattle.curve_model.proofs.StatedLaws.{frac, sum_poly, sum-frac, equals_up, equals_down}
 use Rattle.curve_model.proofs.ManyPoints.{lift_all, local_at_up, local_at_down, polys_of_points, all_points_up, distinct_up}
 
 module _ (A : CurveData) (c : IsFinite A) where
@@ -127,17 +127,6 @@ module _ (A : CurveData) (c : IsFinite A) where
   unfolding lift_all
   at_down q f a w = local_at_down A c [] q f a w
 
-  closed_at : (S : List (List (List Term))) → All (ArePolys A) S → IsClosed A (LocalAt A S)
-  closed_at S q = record {
-    sum = λ f g a b h k. local_at_down A c S q (sum_of A f g) (sum_poly A c f g a b)
-        (subst At (sum-frac A c f g a b) ((laws A c).closed.2 (lift_all A c S q) (frac A c f a) (frac A c g b) (local_at_up A c S q f a h) (local_at_up A c S q g b k)).0);
-    product = λ f g a b h k. local_at_down A c S q (product_of A f g) (product_poly A c f g a b)
-        (subst At (product-frac A c f g a b) ((laws A c).closed.2 (lift_all A c S q) (frac A c f a) (frac A c g b) (local_at_up A c S q f a h) (local_at_up A c S q g b k)).1);
-  }
-    where
-      At : Frac → Type 0
-      At x = Pt.LocalAt (Q A c.curve) (d A c.curve) (lift_all A c S q) x.0 x.1
-
 pub all_points_law : AllPointsSuffice
 all_points_law A c S h all f a =
     let q = polys_of_points A c S h in
@@ -166,6 +155,3 @@ pub no_points_law : NoPoints
 no_points_law A c none f a w =
     let e = all_points_law A c [] (All-nil (IsPoint A)) (λ P m. absurd (none P m)) f a in
     (none_law A c f a).0 (e.0 w)
-
-pub local_closed_law : LocalAtIsClosed
-local_closed_law A c S h = closed_at A c S (polys_of_points A c S h)

@@ -117,10 +117,6 @@ LocalAtNone = (A : CurveData) → IsFinite A → (f : Fraction) → IsFraction A
 abbrev pub NoPoints : Type 0
 NoPoints = (A : CurveData) → IsFinite A → ((P : List (List Term)) → IsMaximal A P → ⊥) → (f : Fraction) → IsFraction A f → Integral A f → InA A f
 
--- the fractions local at a list of points are closed under sums and products
-abbrev pub LocalAtIsClosed : Type 0
-LocalAtIsClosed = (A : CurveData) → IsFinite A → (S : List (List (List Term))) → All (IsPoint A) S → IsClosed A (LocalAt A S)
-
 -- a finite delta bounds the power: each fraction local at P equals some b over d^delta
 abbrev pub DeltaBoundsPower : Type 0
 DeltaBoundsPower =

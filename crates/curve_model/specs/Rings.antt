@@ -1,10 +1,10 @@
 -- Rings of fractions, their radicals at a point, and the descent law.
-use Rattle.std.specs.Prelude.{ℕ, ◌-◌, List, [], Contains}
+use Rattle.std.specs.Prelude.{ℕ, ◌-◌, List, [], Contains, All}
 use Rattle.polys.specs.declared.term.Term.{Term}
 use Rattle.polys.specs.Terms.{one}
 use Rattle.polys.specs.Curve.{CurveData}
 use Rattle.curve_model.specs.Fraction.{Fraction, IsFraction, AreEqual, InA, over, sum_of, product_of, multiple_of}
-use Rattle.curve_model.specs.Local.{Local}
+use Rattle.curve_model.specs.Local.{Local, LocalAt}
 use Rattle.curve_model.specs.Point.{IsPoint}
 use Rattle.curve_model.specs.Closure.{InModule}
 use Rattle.curve_model.specs.Laws.{IsFinite, ArePolys, power_of}
@@ -16,6 +16,10 @@ pub record IsFractionRing (A : CurveData) (B : Fraction → Type 0) : Type 0 whe
   pub sum : (f g : Fraction) → IsFraction A f → IsFraction A g → B f → B g → B (sum_of A f g)
   pub product : (f g : Fraction) → IsFraction A f → IsFraction A g → B f → B g → B (product_of A f g)
   pub negative : (f : Fraction) → IsFraction A f → B f → B (multiple_of A (A.prime - 1) f)
+
+-- the fractions local at a list of points, or at any lists of polynomials, are a ring
+abbrev pub LocalAtIsRing : Type 0
+LocalAtIsRing = (A : CurveData) → IsFinite A → (S : List (List (List Term))) → All (ArePolys A) S → IsFractionRing A (LocalAt A S)
 
 -- the finite sums of products of a member of P and a member of B
 pub data IsProduct (A : CurveData) (P : List (List Term)) (B : Fraction → Type 0) : Fraction → Type 0 where

@@ -3,7 +3,6 @@ ghost use Rattle.curve_model.specs.Laws.{
   EqualFractionsAgree,
   OnePowerServes,
   FractionsAreClosed,
-  LocalAtIsClosed,
   AllPointsSuffice,
   LocalIsSumOfParts,
   PartsAreDirect,
@@ -11,7 +10,7 @@ ghost use Rattle.curve_model.specs.Laws.{
   NoPoints,
   DeltaBoundsPower,
 };
-ghost use Rattle.curve_model.specs.Rings.{DescentLaw};
+ghost use Rattle.curve_model.specs.Rings.{DescentLaw, LocalAtIsRing};
 ghost use Rattle.curve_model.specs.Enlarging.{Enlargement, FullIsLocal, BasisCountsDelta, MembersAreLocal};
 ghost use Rattle.curve_model.specs.Quotient.{CoordinatesAreUnique, MembershipIsDecided, PowersHaveDimension};
 
@@ -30,9 +29,9 @@ pub fn fractions_are_closed()
     ensures { FractionsAreClosed }
 {}
 
-/// Fractions that are local at a list of points are closed under sums and products.
-pub fn fractions_local_at_points_are_closed()
-    ensures { LocalAtIsClosed }
+/// Fractions that are local at a list of points are a ring, and equal fractions are local together.
+pub fn fractions_local_at_points_are_a_ring()
+    ensures { LocalAtIsRing }
 {}
 
 /// Where a list has all points, a fraction is integral exactly where it is local at the list.
