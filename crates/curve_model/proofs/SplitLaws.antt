@@ -12,7 +12,7 @@ use Rattle.polys.specs.Curve.{CurveData}
 use Rattle.curve_model.specs.Fraction.{Fraction, IsFraction, InA, over, sum_of}
 use Rattle.curve_model.specs.Local.{Local, LocalAt}
 use Rattle.curve_model.specs.Point.{IsPoint}
-use Rattle.curve_model.specs.Laws.{IsFinite, ArePolys, total, SumOfParts, AllPointsSuffice, LocalIsSumOfParts, PartsAreDirect, LocalAtNone, NoPoints}
+use Rattle.curve_model.specs.Laws.{IsFinite, ArePolys, total, SumOfParts, AllPointsSuffice, LocalIsSumOfParts, IntegralIsSumOfParts, PartsAreDirect, LocalAtNone, NoPoints}
 use Rattle.curve_model.proofs.Facts.{same_member}
 use Rattle.curve_model.proofs.Chains.{power_none, over_none}
 use Rattle.curve_model.proofs.Base.{Ring, d, Q, Curve, member, equal_up, equal_down}
@@ -155,3 +155,9 @@ pub no_points_law : NoPoints
 no_points_law A c none f a w =
     let e = all_points_law A c [] (All-nil (IsPoint A)) (λ P m. absurd (none P m)) f a in
     (none_law A c f a).0 (e.0 w)
+
+pub all_parts_law : IntegralIsSumOfParts
+all_parts_law A c S h all f a =
+    let e = all_points_law A c S h.points all f a in
+    let g = parts_law A c S h f a in
+    ((λ w. g.0 (e.0 w)), λ w. e.1 (g.1 w))

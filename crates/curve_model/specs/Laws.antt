@@ -103,6 +103,12 @@ LocalIsSumOfParts =
     (A : CurveData) → IsFinite A → (S : List (List (List Term))) → ArePoints A S
     → (f : Fraction) → IsFraction A f → LocalAt A S f ↔ SumOfParts A S f
 
+-- where S lists all points, each once, a fraction is integral exactly where it is such a sum
+abbrev pub IntegralIsSumOfParts : Type 0
+IntegralIsSumOfParts =
+    (A : CurveData) → IsFinite A → (S : List (List (List Term))) → ArePoints A S → HasAllPoints A S
+    → (f : Fraction) → IsFraction A f → Integral A f ↔ SumOfParts A S f
+
 -- if a sum of fractions, one local at each of distinct points, is in A, each of them is
 abbrev pub PartsAreDirect : Type 0
 PartsAreDirect =

@@ -5,6 +5,7 @@ ghost use Rattle.curve_model.specs.Laws.{
   FractionsAreClosed,
   AllPointsSuffice,
   LocalIsSumOfParts,
+  IntegralIsSumOfParts,
   PartsAreDirect,
   LocalAtNone,
   NoPoints,
@@ -39,9 +40,11 @@ pub fn all_points_suffice()
     ensures { AllPointsSuffice }
 {}
 
-/// At distinct points a fraction is local exactly where it is a sum of one of A and of fractions, one local at each point.
+/// At distinct points a fraction is local exactly where it is a sum of one of A and of fractions, one local at each point;
+/// at all points the integral fractions are these sums.
 pub fn local_fractions_split()
-    ensures { LocalIsSumOfParts }
+    ensures local { LocalIsSumOfParts }
+    ensures integral { IntegralIsSumOfParts }
 {}
 
 /// That sum is direct modulo A.
