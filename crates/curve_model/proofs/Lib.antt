@@ -21,3 +21,5 @@ pub mod Coordinates
 pub mod EnlargingLaws
 pub mod CountingLaws
 pub mod LocalRingLaws
+pub mod ClosingLaws
+pub mod ChainLaws

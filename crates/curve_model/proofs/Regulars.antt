@@ -42,7 +42,7 @@ module _ (A : CurveData) (c : IsRegular A) where
         (local_of_equal (Curve A c) (d A c) regular_curve (Forms.Mem (Q A c) (d A c) (lift A.prime A.variables P q)) x y f.exponent g.exponent (equal_up A c f g a b e)
         (local_in (Curve A c) (d A c) (lift A.prime A.variables P q) x f.exponent (local_up A c P q f a w))))
 
-  turn_equal : (f g : Fraction) → IsFraction A f → IsFraction A g → AreEqual A f g → AreEqual A g f
+  pub turn_equal : (f g : Fraction) → IsFraction A f → IsFraction A g → AreEqual A f g → AreEqual A g f
   turn_equal f g a b e = equal_down A c g f b a (flip (Curve A c)
       ((Q A c).◌⊗◌ (member A c f.numerator a) (pow (Q A c) (d A c) g.exponent)) ((Q A c).◌⊗◌ (member A c g.numerator b) (pow (Q A c) (d A c) f.exponent)) (equal_up A c f g a b e))
 

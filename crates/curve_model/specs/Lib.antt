@@ -10,3 +10,4 @@ pub mod Laws
 pub mod Rings
 pub mod Quotient
 pub mod Enlarging
+pub mod Closing

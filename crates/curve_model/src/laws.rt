@@ -13,6 +13,7 @@ ghost use Rattle.curve_model.specs.Laws.{
 };
 ghost use Rattle.curve_model.specs.Rings.{DescentLaw, LocalAtIsRing};
 ghost use Rattle.curve_model.specs.Enlarging.{Enlargement, FullIsLocal, BasisCountsDelta, MembersAreLocal};
+ghost use Rattle.curve_model.specs.Closing.{ClosureIsExact, ClosureIsIntegral, ClosureIsUnique, ChainStarts, ChainGoesOn};
 ghost use Rattle.curve_model.specs.Quotient.{CoordinatesAreUnique, MembershipIsDecided, PowersHaveDimension};
 
 /// Equal fractions are integral together, and local at a list of polynomials together.
@@ -89,4 +90,18 @@ pub fn local_rings_are_enlarged()
 pub fn delta_is_counted()
     ensures basis { BasisCountsDelta }
     ensures members { MembersAreLocal }
+{}
+
+/// A fraction is in the module of a closure exactly where it is local at the listed points, and where these are all points
+/// exactly where it is integral; the points determine the closure.
+pub fn closures_are_exact()
+    ensures exact { ClosureIsExact }
+    ensures integral { ClosureIsIntegral }
+    ensures unique { ClosureIsUnique }
+{}
+
+/// A itself starts a chain of rings of local fractions at a point, and each enlargement goes on with it.
+pub fn chains_have_local_rings()
+    ensures start { ChainStarts }
+    ensures step { ChainGoesOn }
 {}
