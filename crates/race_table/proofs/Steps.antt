@@ -1,5 +1,5 @@
 -- Each step is an event of the race machine, and keeps the rule.
-use Rattle.std.proofs.Common.{◌≡◌, ◌≢◌, ℕ, zero, suc, ◌+◌, ◌-◌, ◌*◌, ◌%◌, ◌^◌, ◌<◌, ◌≤◌, ◌==◌, ◌&&◌, nat_le, nat_lt, true, false, List, [], ◌∷◌, ◌++◌, length, get_or, set, drop, map, filter, flat_map, sum_by, slice_index, slice_set, arith, refl, sym, ap, subst, ◌∙◌, ⊎_elim, length-set, length-drop, get_or-set_other, get_or-drop}
+use Rattle.std.proofs.Common.{◌≡◌, ◌≢◌, ℕ, zero, suc, ◌+◌, ◌-◌, ◌*◌, ◌%◌, ◌^◌, ◌<◌, ◌≤◌, ◌==◌, ◌&&◌, min, nat_le, nat_lt, true, false, List, [], ◌∷◌, ◌++◌, length, get_or, set, drop, map, filter, flat_map, sum_by, slice_index, slice_set, arith, refl, sym, ap, subst, ◌∙◌, ⊎_elim, length-set, length-drop, get_or-set_other, get_or-drop}
 use Rattle.std.specs.List.{range_with_len}
 use Rattle.std.proofs.Math.Nat.{mod-eq_of_lt}
 use Rattle.std.proofs.lemmas.Bool.{cases_eq, cases_lt, cond_below, cond_above, ltb-false, and_from, eq-eqb, ne_eqb, cond-true}
@@ -17,9 +17,9 @@ use Rattle.race_core.specs.Moves.{Allows, next, told_spent, drew as drew_state}
 use Rattle.race_core.specs.Sound.{Sound}
 use Rattle.race_core.specs.Laws.{SoundnessIsKept, SoundStatesAccount}
 use Rattle.race_core.specs.declared.event.Event.TheVariants.{Draw, Win}
-use Rattle.race_table.specs.Views.{has, of_seat, times_pair, times_stratum, with_ticket, with_spent, with_won, with_told, drew, looked, tried, was_told}
+use Rattle.race_table.specs.Views.{has, of_seat, times_pair, times_stratum, times_ticket, with_ticket, with_spent, with_won, with_told, drew, looked, tried, was_told}
 use Rattle.race_table.specs.Rule.{Held, IsOwn, ToldTruly, state_of, drawn_by, won_by, is_told}
-use Rattle.race_table.specs.Answers.{Tells, IsTakenBy}
+use Rattle.race_table.specs.Answers.{IsFresh, Tells, IsTakenBy}
 use Rattle.race_table.specs.declared.view.View.{View}
 use Rattle.race_table.proofs.Sums.{at_get, sum-set, has-cases, has-first, has-range, lonely, seat_of, none_pass, some_passes}
 use Rattle.race_table.proofs.Seats.{of_seat-push, of_seat-push_else, filter-one, filter-push_else, times-of_seat, flat-set, flat-only, at_number, range-same, range-set}
@@ -97,6 +97,9 @@ word_else words i j x ne = get_or-set_other words i j x 0 ne
 pub state-word : (strata seats i : ℕ) (words : List ℕ) (views : List View) → 1 ≤ i → word (state_of strata seats words views) i ≡ slice_index words i
 state-word strata seats i words views some_i = get_or-drop 1 words (i - 1) 0 ∙ ap (slice_index words) (let e : 1 + (i - 1) ≡ i = omega arith in e)
 
+not_below : (n tickets : ℕ) → one_if (nat_lt n (min n tickets)) ≡ 0
+not_below n tickets = grind (arith, nat_tests)
+
 -- a draw that found a ticket
 module _ (strata seats n : ℕ) (rest : List ℕ) (views : List View) (held : Held strata seats (n ∷ rest) views) (id : ℕ) (v : View) (at : get_elem? views id ≡ some v) (part : 0 < v.parts) where
   pub number-state : state_of strata seats ((n + 1) ∷ rest) (set views id (with_ticket v n)) ≡ drew_state (state_of strata seats (n ∷ rest) views) v.first
@@ -137,6 +140,32 @@ module _ (strata seats n : ℕ) (rest : List ℕ) (views : List View) (held : He
       let mine = has-first v part in
       let seat = seat_of seats s views id v held.numbers at mine in
       (seat, at_number (is_told views) seats s false seat.0 seat.1 ∙ is_told-own strata seats (n ∷ rest) views held id v at s mine ∙ ap (λ (l : List ℕ). nat_lt 0 (length (filter (λ t. t == s) l))) untold)
+
+  no_pair_drawn : (p : ℕ × ℕ) → (p.0 == n) ≡ true → n < 2 * strata → one_if (p.0 == n && p.1 == p.1) ≤ times_pair n p.1 v.drawn → ⊥
+  no_pair_drawn p same below stands =
+      let one : one_if (p.0 == n && p.1 == p.1) ≡ 1 = cond-true (p.0 == n && p.1 == p.1) 1 0 (and_from (p.0 == n) (p.1 == p.1) same (eq-eqb p.1 p.1 refl)) in
+      let counts : times n (of_seat p.1 v.drawn) ≡ times_pair n p.1 v.drawn = times-of_seat n p.1 v.drawn in
+      ⊎_elim
+      (λ mine.
+      let seat = seat_of seats p.1 views id v held.numbers at mine in
+      let lists = map (drawn_by views) (range_with_len 1 seats) in
+      let list : get_or lists (p.1 - 1) [] ≡ of_seat p.1 v.drawn = at_number (drawn_by views) seats p.1 [] seat.0 seat.1 ∙ drawn_by-own strata seats (n ∷ rest) views held id v at p.1 mine in
+      let inside : p.1 - 1 < length lists = omega (arith, length-map-range_with_len (drawn_by views) 1 seats, seat.0, seat.1) in
+      let within : times n (get_or lists (p.1 - 1) []) ≤ sum_by (λ list. times n list) lists = get_or-le-sum_by (λ list. times n list) lists (p.1 - 1) [] inside in
+      let none : sum_by (λ list. times n list) lists ≡ 0 = held.sound.drawn n ∙ not_below n (2 * strata) in
+      omega (arith, ap (times n) list))
+      (λ other.
+      let none : times n (of_seat p.1 v.drawn) ≡ 0 = ap (times n) ((held.own id v at).drawn p.1 other) in
+      omega arith)
+      (has-cases p.1 v)
+
+  -- the ticket at the count is in no list of the view
+  pub fresh : n < 2 * strata → times_ticket n v.drawn ≡ 0
+  fresh below = ⊎_elim (λ e. e)
+      (λ ne.
+      let found = some_passes (λ p. p.0 == n) v.drawn (0, 0) (omega arith) in
+      absurd (no_pair_drawn (get_or v.drawn found.0 (0, 0)) found.2 below (get_or-le-sum_by (λ q. one_if (q.0 == n && q.1 == (get_or v.drawn found.0 (0, 0)).1)) v.drawn found.0 (0, 0) found.1)))
+      (cases_eq (times_ticket n v.drawn) 0)
 
   own : IsOwn strata seats v
   own = held.own id v at
@@ -182,6 +211,12 @@ module _ (strata seats n : ℕ) (rest : List ℕ) (views : List View) (held : He
 
 pub untold-spent : (v : View) → was_told v ≡ false → v.spent ≡ []
 untold-spent v unspent = nil_from_length v.spent (let e : length v.spent ≡ 0 = omega (arith, ltb-false 0 (length v.spent) unspent) in e)
+
+pub draws-fresh : (strata seats id : ℕ) (v : View) (words : List ℕ) (views : List View) → 0 < v.parts → Held strata seats words views → get_elem? views id ≡ some v → IsFresh v (slice_index words 0)
+draws-fresh strata seats id v [] views part held at below = absurd (omega (arith, held.wide))
+draws-fresh strata seats id v (n ∷ rest) views part held at below =
+    let same : v.strata ≡ strata = ((held.own id v at).sizes part).0 in
+    fresh strata seats n rest views held id v at part (subst (λ k. n < 2 * k) same below)
 
 pub draws : SoundnessIsKept → SoundStatesAccount → (strata seats id : ℕ) (v : View) (words : List ℕ) (views : List View) → 0 < v.parts → was_told v ≡ false
     → Held strata seats words views → get_elem? views id ≡ some v

@@ -28,9 +28,13 @@ pub record Tells (v : View) (i n : ℕ) : Type 0 where
   pub free : n ≡ 0 → IsOpen v i
   pub taken : n ≢ 0 → IsTakenBy v i n
 
+-- the pass has not drawn the ticket n, if there is one of this number
+abbrev pub IsFresh : View → ℕ → Type 0
+IsFresh v n = n < 2 * v.strata → times_ticket n v.drawn ≡ 0
+
 -- a draw
 abbrev pub IsTicket : View → Ticket → View → Type 0
-IsTicket v (Number t) w = (t < 2 * v.strata) × (w ≡ with_ticket v t)
+IsTicket v (Number t) w = (t < 2 * v.strata) × (w ≡ with_ticket v t) × (times_ticket t v.drawn ≡ 0)
 IsTicket v Spent w = w ≡ with_spent v
 
 -- a look at the stratum i

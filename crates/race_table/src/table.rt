@@ -2,7 +2,7 @@
 ghost use Rattle.std.specs.Prelude.{◌≡◌, ℕ, ◌+◌, ◌*◌, ◌<◌, ◌≤◌, [], false, length, IfOk};
 ghost use Rattle.race_table.specs.Rule.{Held};
 ghost use Rattle.race_table.specs.Views.{view, drew, looked, tried, was_told, HasAll};
-ghost use Rattle.race_table.specs.Answers.{IsTicket, IsLook, IsWin, IsClosed, Tells};
+ghost use Rattle.race_table.specs.Answers.{IsFresh, IsTicket, IsLook, IsWin, IsClosed, Tells};
 
 use crate::claim::{Look, OpenLook, Ticket, Win, Won};
 use crate::pass::Pass;
@@ -23,7 +23,7 @@ impl TableRule<(), View, Sizes> for Fair {
 struct Draws;
 
 impl Play<(), View> for Draws {
-    ghost then = { λ step me found after. after ≡ (drew me.0 found, me.1) };
+    ghost then = { λ step me found after. (after ≡ (drew me.0 found, me.1)) × IsFresh me.0 found };
 }
 
 struct Looks;
@@ -86,8 +86,8 @@ impl RaceTable {
         self.strata
     }
 
-    /// Draws the next ticket for the pass's own number. `Spent` comes where no ticket is left; then
-    /// the pass is spent.
+    /// Draws the next ticket for the pass's own number, one that the pass has not drawn. `Spent` comes
+    /// where no ticket is left; then the pass is spent.
     pub fn draw(&self, pass: &mut Pass) -> Ticket
         requires table { BelongsTo self.now pass.old }
         requires unspent { was_told (view_of pass.old) ≡ false }

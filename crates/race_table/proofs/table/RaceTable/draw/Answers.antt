@@ -1,7 +1,7 @@
 use Rattle.std.proofs.Common.{◌<◌, arith, refl, slice_index}
 use Rattle.atomic_table.specs.Table.{keeps}
 use Rattle.race_table.specs.Views.{drew}
-use Rattle.race_table.proofs.Steps.{draws}
+use Rattle.race_table.proofs.Steps.{draws, draws-fresh}
 use Rattle.race_table.proofs.table.RaceTable.draw.Goals as goal
 
 pub fetch_add-found-requires : goal.fetch_add-found-requires
@@ -16,6 +16,6 @@ fetch_add-found-requires c =
         keeps,
         tt,
         draws c.soundness_is_kept.ensures c.sound_states_account.ensures table.shared.key.strata table.shared.key.seats seat.id seat.me.0 s.words s.views part c.requires.unspent holds at,
-        refl,
+        (refl, draws-fresh table.shared.key.strata table.shared.key.seats seat.id seat.me.0 s.words s.views part holds at),
       ),
     )
