@@ -1,0 +1,264 @@
+// Races over jobs and books in memory.
+ghost use Rattle.std.specs.Prelude.{◌≡◌, ℕ, ◌≤◌};
+
+use super::*;
+use norm_outside::NoMemory;
+use race_table::{BookOf, Job, JobStop, Jobs, Join, OpenLook, Progress, RaceTable, Won};
+use std::sync::Mutex;
+use std::sync::atomic::{AtomicU32, Ordering};
+use std::test::Fail;
+
+// A job that needs so many enlargements.
+#[derive(Drop)]
+struct Counted {
+    stratum: u32,
+    left: u32,
+    whole: bool,
+}
+
+impl Job for Counted {
+    type Done = u32;
+
+    ghost of_stratum = { λ j. j.stratum };
+
+    ghost left = { λ j. j.left };
+
+    ghost may_stop = { λ _ _. ⊥ };
+
+    ghost is_whole = { λ j. j.whole };
+
+    ghost is_done = { λ j done. done ≡ j.stratum };
+
+    fn stratum(&self) -> u32 {
+        self.stratum
+    }
+
+    fn enlarge(&mut self, look: OpenLook) -> Result<Progress<u32>, JobStop> {
+        drop(look);
+        if self.left > 0 {
+            self.left -= 1;
+            return Ok(Progress::More);
+        }
+        self.whole = true;
+        Ok(Progress::Whole(self.stratum))
+    }
+}
+
+// Jobs that need 3 enlargements, or 5 of the second kind.
+#[derive(Drop)]
+struct Even {
+    strata: u32,
+}
+
+impl Jobs for Even {
+    type Job = Counted;
+
+    ghost strata = { λ jobs. jobs.strata };
+
+    ghost may_stop = { λ _ _ _ _. ⊥ };
+
+    fn start(&self, kind: u32, stratum: u32) -> Result<Counted, JobStop> {
+        Ok(Counted {
+            stratum,
+            left: 2 + 2 * kind,
+            whole: false,
+        })
+    }
+}
+
+// Jobs that stop at once for want of memory.
+#[derive(Drop)]
+struct Stopping {
+    strata: u32,
+}
+
+impl Jobs for Stopping {
+    ghost use Rattle.std.specs.Prelude.{◌≡◌};
+    ghost use Rattle.race_table.specs.declared.jobs.JobStop.TheVariants.{Memory};
+
+    type Job = Counted;
+
+    ghost strata = { λ jobs. jobs.strata };
+
+    ghost may_stop = { λ _ _ _ stop. stop ≡ Memory };
+
+    fn start(&self, _kind: u32, _stratum: u32) -> Result<Counted, JobStop> {
+        Err(JobStop::Memory)
+    }
+}
+
+// A book that counts.
+#[derive(Drop)]
+struct Counting {
+    joins: u32,
+    settles: u32,
+}
+
+impl BookOf for Counting {
+    type Done = u32;
+
+    ghost may_be_strange = { ⊥ };
+
+    fn join(&mut self, won: Won, _done: u32) -> Join<u32> {
+        won.spend();
+        self.joins = self.joins.saturating_add(1);
+        Join::Kept
+    }
+
+    fn settle(&mut self) -> Result<bool, NoMemory> {
+        self.settles = self.settles.saturating_add(1);
+        Ok(true)
+    }
+}
+
+// A book that knows no work.
+#[derive(Drop)]
+struct Foreign;
+
+impl BookOf for Foreign {
+    ghost use Rattle.std.specs.Prelude.{⊤};
+
+    type Done = u32;
+
+    ghost may_be_strange = { ⊤ };
+
+    fn join(&mut self, won: Won, done: u32) -> Join<u32> {
+        won.spend();
+        Join::Stranger(done)
+    }
+
+    fn settle(&mut self) -> Result<bool, NoMemory> {
+        Ok(false)
+    }
+}
+
+#[derive(Drop)]
+struct Silent;
+
+impl Gate for Silent {
+    fn at(&self, _point: GatePoint) {}
+}
+
+// A gate that holds the first caller at Looked(2) until Won(2) was seen, or for so many turns.
+#[derive(Drop)]
+struct Holding {
+    looked: AtomicU32,
+    won: AtomicU32,
+}
+
+impl Gate for Holding {
+    fn at(&self, point: GatePoint) {
+        match point {
+            GatePoint::Won(2) => self.won.store(1, Ordering::SeqCst),
+            GatePoint::Looked(2) => {
+                if self.looked.fetch_add(1, Ordering::SeqCst) == 0 {
+                    for _turn in 0..50_000_000u32 {
+                        if self.won.load(Ordering::SeqCst) == 1 {
+                            return;
+                        }
+                    }
+                }
+            }
+            _ => {}
+        }
+    }
+}
+
+fn count(reports: &Reports, end: End) -> usize {
+    reports
+        .as_slice()
+        .iter()
+        .filter(|report| report.end == end)
+        .count()
+}
+
+#[test]
+fn every_stratum_is_joined_once(rt: HostRuntime) -> Result<(), Fail> {
+    let jobs = Even { strata: 256 };
+    for workers in [1u32, 2, 4, 16] {
+        if workers < 1 || workers > 16 {
+            return Err("a number of workers is out of range".into());
+        }
+        let (table, mut pass) = RaceTable::new(rt.alloc(), 256, workers + 1)?;
+        let book = Mutex::new(Counting {
+            joins: 0,
+            settles: 0,
+        });
+        let reports = race(
+            &rt,
+            rt.alloc(),
+            &table,
+            &mut pass,
+            &book,
+            &jobs,
+            &Silent,
+            workers,
+        )?;
+        assert_eq!(rt; reports.len(), 512);
+        assert_eq!(rt; count(&reports, End::Joined), 256);
+        let counted = book.into_inner();
+        assert_eq!(rt; (counted.joins, counted.settles), (256, 256));
+    }
+    Ok(())
+}
+
+#[test]
+fn strangers_and_stops_are_reported(rt: HostRuntime) -> Result<(), Fail> {
+    let (table, mut pass) = RaceTable::new(rt.alloc(), 4, 3)?;
+    let foreign = Mutex::new(Foreign);
+    let jobs = Even { strata: 4 };
+    let reports = race(
+        &rt,
+        rt.alloc(),
+        &table,
+        &mut pass,
+        &foreign,
+        &jobs,
+        &Silent,
+        2,
+    )?;
+    assert_eq!(rt; count(&reports, End::Strange), 4);
+    let (table, mut pass) = RaceTable::new(rt.alloc(), 4, 3)?;
+    let book = Mutex::new(Counting {
+        joins: 0,
+        settles: 0,
+    });
+    let stopping = Stopping { strata: 4 };
+    let reports = race(
+        &rt,
+        rt.alloc(),
+        &table,
+        &mut pass,
+        &book,
+        &stopping,
+        &Silent,
+        2,
+    )?;
+    assert_eq!(rt; count(&reports, End::GaveUp(JobStop::Memory)), 8);
+    assert_eq!(rt; book.into_inner().joins, 0);
+    Ok(())
+}
+
+#[test]
+fn a_held_worker_withdraws(rt: HostRuntime) -> Result<(), Fail> {
+    let (table, mut pass) = RaceTable::new(rt.alloc(), 2, 3)?;
+    let book = Mutex::new(Counting {
+        joins: 0,
+        settles: 0,
+    });
+    let gate = Holding {
+        looked: AtomicU32::new(0),
+        won: AtomicU32::new(0),
+    };
+    let jobs = Even { strata: 2 };
+    let reports = race(&rt, rt.alloc(), &table, &mut pass, &book, &jobs, &gate, 2)?;
+    assert_eq!(rt; count(&reports, End::Joined), 2);
+    let mut withdrawn = 0;
+    for report in reports.as_slice() {
+        if let End::Withdrawn(_) = report.end {
+            withdrawn = 1.max(withdrawn);
+        }
+    }
+    assert_eq!(rt; withdrawn, 1);
+    Ok(())
+}
