@@ -79,9 +79,10 @@ impl RaceTable {
         Ok((table, pass))
     }
 
-    /// The number of strata.
+    /// The number of strata, at most 256.
     pub fn strata(&self) -> u32
-        ensures { result ≡ strata_of self.now }
+        ensures strata { result ≡ strata_of self.now }
+        ensures few { result ≤ 256 }
     {
         self.strata
     }
