@@ -4,9 +4,12 @@ ghost use Rattle.std.specs.Prelude.{◌≡◌, ℕ, ◌≤◌};
 use super::*;
 use norm_outside::NoMemory;
 use race_table::{BookOf, Job, JobStop, Jobs, Join, OpenLook, Progress, RaceTable, Won};
-use std::sync::Mutex;
+use std::alloc::Global;
+use std::process::Abort;
 use std::sync::atomic::{AtomicU32, Ordering};
+use std::sync::{Mutex, Wait};
 use std::test::Fail;
+use std::thread::Threads;
 
 // A job that needs so many enlargements.
 #[derive(Drop)]
@@ -139,11 +142,13 @@ impl Gate for Silent {
     fn at(&self, _point: GatePoint) {}
 }
 
-// A gate that holds the first caller at Looked(2) until Won(2) was seen, or for so many turns.
+// A gate that holds the first caller at Looked(2) until Won(2) was seen, or for so many turns, and notes whether it
+// was seen.
 #[derive(Drop)]
 struct Holding {
     looked: AtomicU32,
     won: AtomicU32,
+    released: AtomicU32,
 }
 
 impl Gate for Holding {
@@ -154,6 +159,7 @@ impl Gate for Holding {
                 if self.looked.fetch_add(1, Ordering::SeqCst) == 0 {
                     for _turn in 0..50_000_000u32 {
                         if self.won.load(Ordering::SeqCst) == 1 {
+                            self.released.store(1, Ordering::SeqCst);
                             return;
                         }
                     }
@@ -239,9 +245,12 @@ fn strangers_and_stops_are_reported(rt: HostRuntime) -> Result<(), Fail> {
     Ok(())
 }
 
-#[test]
-fn a_held_worker_withdraws(rt: HostRuntime) -> Result<(), Fail> {
-    let (table, mut pass) = RaceTable::new(rt.alloc(), 2, 3)?;
+// One race of two workers over two strata, the first of whom at stratum 2 is held: whether the other won it meanwhile.
+fn is_held_until_won<R: Threads + Wait + Sync + Abort>(
+    rt: &R,
+    alloc: Global,
+) -> Result<bool, Fail> {
+    let (table, mut pass) = RaceTable::new(alloc, 2, 3)?;
     let book = Mutex::new(Counting {
         joins: 0,
         settles: 0,
@@ -249,16 +258,37 @@ fn a_held_worker_withdraws(rt: HostRuntime) -> Result<(), Fail> {
     let gate = Holding {
         looked: AtomicU32::new(0),
         won: AtomicU32::new(0),
+        released: AtomicU32::new(0),
     };
     let jobs = Even { strata: 2 };
-    let reports = race(&rt, rt.alloc(), &table, &mut pass, &book, &jobs, &gate, 2)?;
+    let reports = race(rt, alloc, &table, &mut pass, &book, &jobs, &gate, 2)?;
     assert_eq!(rt; count(&reports, End::Joined), 2);
-    let mut withdrawn = 0;
+    let (mut winner, mut held, mut told) = (0, 0, 0);
     for report in reports.as_slice() {
-        if let End::Withdrawn(_) = report.end {
-            withdrawn = 1.max(withdrawn);
+        if report.ticket % 2 == 1 {
+            match report.end {
+                End::Joined => winner = report.seat,
+                End::Withdrawn(seat) => {
+                    held = report.seat;
+                    told = seat;
+                }
+                _ => {}
+            }
         }
     }
-    assert_eq!(rt; withdrawn, 1);
-    Ok(())
+    assert_eq!(rt; told, winner);
+    let is_released = gate.released.load(Ordering::SeqCst) == 1;
+    assert!(rt; !is_released || held != winner);
+    Ok(is_released)
+}
+
+// A body on one thread never releases the one that it holds.
+#[test]
+fn a_held_worker_withdraws(rt: HostRuntime) -> Result<(), Fail> {
+    for _ in 0..20 {
+        if is_held_until_won(&rt, rt.alloc())? {
+            return Ok(());
+        }
+    }
+    Err("no worker was held until another had won".into())
 }
