@@ -142,6 +142,26 @@ impl Gate for Silent {
     fn at(&self, _point: GatePoint) {}
 }
 
+// A gate that counts.
+#[derive(Drop)]
+struct Tally {
+    drawn: AtomicU32,
+    looked: AtomicU32,
+    won: AtomicU32,
+    joined: AtomicU32,
+}
+
+impl Gate for Tally {
+    fn at(&self, point: GatePoint) {
+        match point {
+            GatePoint::Drawn(_) => self.drawn.fetch_add(1, Ordering::SeqCst),
+            GatePoint::Looked(_) => self.looked.fetch_add(1, Ordering::SeqCst),
+            GatePoint::Won(_) => self.won.fetch_add(1, Ordering::SeqCst),
+            GatePoint::Joined(_) => self.joined.fetch_add(1, Ordering::SeqCst),
+        };
+    }
+}
+
 // A gate that holds the first caller at Looked(2) until Won(2) was seen, or for so many turns, and notes whether it
 // was seen.
 #[derive(Drop)]
@@ -190,6 +210,12 @@ fn every_stratum_is_joined_once(rt: HostRuntime) -> Result<(), Fail> {
             joins: 0,
             settles: 0,
         });
+        let gate = Tally {
+            drawn: AtomicU32::new(0),
+            looked: AtomicU32::new(0),
+            won: AtomicU32::new(0),
+            joined: AtomicU32::new(0),
+        };
         let reports = race(
             &rt,
             rt.alloc(),
@@ -197,13 +223,17 @@ fn every_stratum_is_joined_once(rt: HostRuntime) -> Result<(), Fail> {
             &mut pass,
             &book,
             &jobs,
-            &Silent,
+            &gate,
             workers,
         )?;
         assert_eq!(rt; reports.len(), 512);
         assert_eq!(rt; count(&reports, End::Joined), 256);
         let counted = book.into_inner();
         assert_eq!(rt; (counted.joins, counted.settles), (256, 256));
+        assert_eq!(rt; gate.drawn.load(Ordering::SeqCst), 512);
+        assert_eq!(rt; gate.won.load(Ordering::SeqCst), 256);
+        assert_eq!(rt; gate.joined.load(Ordering::SeqCst), 256);
+        assert!(rt; gate.looked.load(Ordering::SeqCst) >= 3 * 256);
     }
     Ok(())
 }
