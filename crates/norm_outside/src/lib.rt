@@ -18,6 +18,7 @@ pub use reading::{ReadAll, read_all};
 pub use sink::{Sink, StdSink};
 pub use sound::{SoundSink, SoundSource, still_counts_have_no_cause};
 pub use source::{Source, StdSource};
+use std::alloc::AllocError;
 pub use writing::{WriteStop, write_all_of};
 
 /// A read or a write that failed.
@@ -27,6 +28,12 @@ pub struct Failed;
 /// No memory was to be had.
 #[derive(Clone, Copy, PartialEq, Eq, Debug, Drop)]
 pub struct NoMemory;
+
+impl From<AllocError> for NoMemory {
+    fn from(_: AllocError) -> NoMemory {
+        NoMemory
+    }
+}
 
 #[cfg(test)]
 mod tests;

@@ -42,6 +42,23 @@ impl Poly {
         }
     }
 
+    /// The polynomial whose terms these are, moved; they fall in dp and have coefficients from 1 to p - 1.
+    pub fn of_terms(p: Prime, terms: Vec<Term>) -> Poly
+        requires { IsVector p terms.items }
+        ensures { result ≡ record { prime = p; terms = terms.items } }
+    {
+        Poly { prime: p, terms }
+    }
+
+    /// The terms, moved, in falling order.
+    pub fn into_terms(self) -> Vec<Term>
+        ensures value { result.items ≡ self.terms }
+        ensures known { IsVector self.prime self.terms }
+    {
+        let Poly { prime: _, terms } = self;
+        terms
+    }
+
     /// The polynomial of one term, whose coefficient is a residue. The coefficient 0 gives 0.
     pub fn from_term(alloc: Global, p: Prime, t: Term) -> Result<Poly, NoMemory>
         requires { t.coeff < p }
