@@ -1,0 +1,6 @@
+pub mod Bases
+pub mod Deep
+pub mod Laws
+pub mod Module
+pub mod SVector
+pub mod Vector
