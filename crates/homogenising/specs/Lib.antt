@@ -1,0 +1,2 @@
+pub mod Homogenised
+pub mod Laws
