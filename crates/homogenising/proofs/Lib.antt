@@ -1,0 +1,9 @@
+mod Places
+mod Order
+mod Images
+mod Monomials
+mod Lifted
+mod Stays
+mod Descent
+mod Apart
+mod Spanning

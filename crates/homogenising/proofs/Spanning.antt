@@ -1,0 +1,251 @@
+-- Members with all leads span an ideal, and are its reduced basis where none is superfluous.
+use Rattle.std.proofs.Common.{◌≡◌, ◌↔◌, ℕ, ◌+◌, ◌*◌, ◌-◌, ◌%◌, ◌<◌, zero, suc, List, [], ◌∷◌, ◌++◌, length, map, refl, sym, ap, ◌∙◌, subst, arith}
+use Rattle.std.specs.declared.cmp.Ordering.TheVariants.{Less, Greater}
+use Rattle.std.specs.List.{All, AllPairs, Contains}
+use Rattle.std.proofs.lemmas.List.Elements.{All-contains}
+use native.Mathlib.Nat.{mul-add-mod_self_left, mod-eq_of_lt}
+use Rattle.monomials.specs.Mono.{Monomial, pointwise, times, Divides, cmp_dp}
+use Rattle.monomials.proofs.Factors.{divides_law}
+use Rattle.monomials.proofs.Order.{times_comm}
+use Rattle.prime_field.specs.Primes.{IsPrime}
+use Rattle.polys.specs.declared.term.Term.{Term}
+use Rattle.polys.specs.Terms.{EachMono, IsAffine, IsCanonical, IsPoly, IsMonic, OnlyFirst, add, sub, mul, multiple, scaled}
+use Rattle.polys.specs.Ideal.{InIdeal}
+use Rattle.polys.specs.Reduced.{leads, lower_monos, IsLead, IsMinimalLead, IsReducedBasis}
+use Rattle.polys.proofs.Affine.{poly_sub, poly_mul, sevens_of}
+use Rattle.polys.proofs.Each.{every_more, every_normal, every_append, every_multiple}
+use Rattle.polys.proofs.Unique.{contains_head}
+use Rattle.polys.proofs.Ideals.{in_none, in_add, in_sub, in_mul, in_poly, in_generator, in_larger}
+use Rattle.polys.proofs.Leads.{lead_of_mul, every_low}
+use Rattle.polys.proofs.Sums.{add_assoc, add_comm}
+use Rattle.polys.proofs.Units.{weigh-scaled, sub_self, add_none}
+use Rattle.polys.proofs.Weights.{canon, weigh, weigh-append, weigh-normal, normal_ext, mod_plus, turn_down}
+use Rattle.graded_modules.specs.Vector.{lead_mono}
+use Rattle.graded_modules.specs.Module.{IsLeadMultiple}
+use Rattle.graded_modules.specs.Bases.{AreApart}
+use Rattle.homogenising.specs.Laws.{HasAffineLeads, ReducedByAffineLeads, RemainderDecides}
+use Rattle.homogenising.proofs.Descent.{Step, descent}
+use Rattle.homogenising.proofs.Apart.{apart_same, lead_contained, contained_lead, divides_chain, divides_both}
+
+-- a term that both have drops out of a difference
+sub_cons : (p : ℕ) (t : Term) (f g : List Term) → 0 < p → sub p (t ∷ f) (t ∷ g) ≡ sub p f g
+unfolding weigh
+sub_cons zero t f g h = absurd (omega arith)
+sub_cons (suc k) t f g h =
+    normal_ext (suc k) ((t ∷ f) ++ multiple (suc k) (suc k - 1) (t ∷ g)) (f ++ multiple (suc k) (suc k - 1) g)
+    (λ χ. whole χ (t ∷ f) (t ∷ g) ∙ ap (λ (n : ℕ). n % suc k) (parts (t.coeff * χ t.mono) (weigh χ f) (weigh χ g))
+    ∙ mul-add-mod_self_left (suc k) (t.coeff * χ t.mono) (weigh χ f + k * weigh χ g) ∙ sym (whole χ f g))
+  where
+    whole : (χ : Monomial → ℕ) (f g : List Term) → weigh χ (f ++ multiple (suc k) (suc k - 1) g) % suc k ≡ (weigh χ f + k * weigh χ g) % suc k
+    whole χ f g =
+        ap (λ (n : ℕ). n % suc k) (weigh-append χ f (multiple (suc k) (suc k - 1) g))
+        ∙ mod_plus (suc k) (weigh χ f) (weigh χ f) (weigh χ (multiple (suc k) (suc k - 1) g)) (k * weigh χ g) refl
+        (weigh-normal (suc k) χ (scaled (suc k - 1) g) ∙ ap (λ (n : ℕ). n % suc k) (weigh-scaled χ (suc k - 1) g ∙ (let e : suc k - 1 ≡ k = omega arith in ap (λ (n : ℕ). n * weigh χ g) e)))
+
+    parts : (c x y : ℕ) → (c + x) + k * (c + y) ≡ suc k * c + (x + k * y)
+    parts c x y = omega arith
+
+-- what is taken away and added again
+pub sub_add : (p : ℕ) (f g : List Term) → 0 < p → IsCanonical p f → add p (sub p f g) g ≡ f
+sub_add p f g h c =
+    add_assoc p f (multiple p (p - 1) g) g
+    ∙ ap (add p f) (add_comm p (multiple p (p - 1) g) g ∙ sub_self p g h)
+    ∙ add_none p f c
+
+-- what is added and taken away again
+add_sub : (p : ℕ) (f g : List Term) → 0 < p → IsCanonical p f → sub p (add p f g) g ≡ f
+add_sub p f g h c = add_assoc p f g (multiple p (p - 1) g) ∙ ap (add p f) (sub_self p g h) ∙ add_none p f c
+
+-- taking away a difference gives the other part
+taken : (p : ℕ) (f g : List Term) → 0 < p → IsCanonical p f → IsCanonical p g → sub p f (sub p f g) ≡ g
+taken p f g h b c = (λ i. sub p ((sym (sub_add p f g h b) ∙ add_comm p (sub p f g) g) i) (sub p f g)) ∙ add_sub p g (sub p f g) h c
+
+only_factor : (n : ℕ) (a c : List ℕ) → length a ≡ length c → OnlyFirst n (pointwise (λ x y. x + y) a c) → OnlyFirst n c
+only_factor n [] [] l o = tt
+only_factor n [] (y ∷ c) l o = absurd (omega arith)
+only_factor n (x ∷ a) [] l o = tt
+only_factor zero (x ∷ a) (y ∷ c) l o = let z = o.0 in ((omega arith), only_factor zero a c (omega arith) o.1)
+only_factor (suc n) (x ∷ a) (y ∷ c) l o = only_factor n a c (omega arith) o
+
+-- what an affine divisor lacks of an affine monomial is affine
+affine_factor : (n : ℕ) (a b : Monomial) → IsAffine n a → IsAffine n b → Divides a b → (c : Monomial) × IsAffine n c × (b ≡ times a c)
+affine_factor n a b g h d =
+    let r = (divides_law a b (g.seven ∙ sym h.seven)).0 d in (
+      r.0,
+      record {
+        seven = sym r.1 ∙ g.seven;
+        first = only_factor n a.exponents r.0.exponents r.1 (subst (λ (w : Monomial). OnlyFirst n w.exponents) r.3 h.first);
+        plain = r.2;
+      },
+      r.3,
+    )
+
+module _ (p n : ℕ) (prime : IsPrime p) where
+  pos : 0 < p
+  pos = let h = prime.0 in omega arith
+
+  two : 1 < p
+  two = let h = prime.0 in omega arith
+
+  abbrev Low : Monomial → Monomial → Type 0
+  Low m x = cmp_dp x m ≡ Less
+
+  lows : (t : Term) (f : List Term) → IsCanonical p (t ∷ f) → EachMono (Low t.mono) f
+  lows t f c =
+      every_more (λ w. cmp_dp t.mono w ≡ Greater) (Low t.mono) f (λ w e. turn_down t.mono w e) (every_low p t.mono f (canon p f c.3) c.2)
+
+  -- two polynomials with the same lead
+  lead_drops : (t : Term) (f g : List Term) → IsCanonical p (t ∷ f) → IsCanonical p g → (h : List Term) → g ≡ t ∷ h → EachMono (Low t.mono) (sub p (t ∷ f) g)
+  lead_drops t f g c d h e =
+      subst (EachMono (Low t.mono)) (sym (ap (sub p (t ∷ f)) e ∙ sub_cons p t f h pos))
+      (every_normal (Low t.mono) p (f ++ multiple p (p - 1) h)
+      (every_append (Low t.mono) f (multiple p (p - 1) h) (lows t f c) (every_multiple (Low t.mono) p (p - 1) h (lows t h (subst (IsCanonical p) e d)))))
+
+  -- the monic b, times what its lead lacks of t, cancels t
+  cancel : (t : Term) (f b : List Term) → IsPoly p n (t ∷ f) → IsPoly p n b → IsMonic b → Divides (lead_mono b) t.mono
+      → (a : List Term) × IsPoly p n a × EachMono (Low t.mono) (sub p (t ∷ f) (mul p a b))
+  cancel t f [] hf hb m d = absurd m
+  cancel t f (u ∷ g) hf hb m d = (w ∷ [], poly, lead_drops t f (mul p (w ∷ []) (u ∷ g)) hf.canonical (poly_mul p n (w ∷ []) (u ∷ g) pos poly hb).canonical product.0 same)
+    where
+      c : (c : Monomial) × IsAffine n c × (t.mono ≡ times u.mono c)
+      c = affine_factor n u.mono t.mono hb.affine.0 hf.affine.0 d
+
+      w : Term
+      w = record { coeff = t.coeff; mono = c.0 }
+
+      poly : IsPoly p n (w ∷ [])
+      poly = record { canonical = (hf.canonical.0, hf.canonical.1, tt, tt); affine = (c.1, tt) }
+
+      product : (h : List Term) × (mul p (w ∷ []) (u ∷ g) ≡ record { coeff = (t.coeff * u.coeff) % p; mono = times c.0 u.mono } ∷ h)
+      product = lead_of_mul p w u [] g prime poly.canonical hb.canonical (sevens_of p n (w ∷ []) poly) (sevens_of p n (u ∷ g) hb)
+
+      coeff : (t.coeff * u.coeff) % p ≡ t.coeff
+      coeff = (let e : t.coeff * u.coeff ≡ t.coeff = ap (λ (k : ℕ). t.coeff * k) m ∙ (omega arith) in ap (λ (k : ℕ). k % p) e) ∙ mod-eq_of_lt hf.canonical.1
+
+      mono : times c.0 u.mono ≡ t.mono
+      mono = times_comm c.0 u.mono ∙ sym c.2
+
+      same : mul p (w ∷ []) (u ∷ g) ≡ t ∷ product.0
+      same = product.1 ∙ (λ i. record { coeff = coeff i; mono = mono i } ∷ product.0)
+
+  module _ (is ds : List (List Term)) (hi : All (IsPoly p n) is) (hd : All (IsPoly p n) ds) (mem : All (InIdeal p n is) ds) (mon : All IsMonic ds) (all : HasAffineLeads p n is ds) where
+    abbrev Down : Monomial → Type 0
+    Down m = (t : Term) (f : List Term) → t.mono ≡ m → InIdeal p n is (t ∷ f) → InIdeal p n ds (t ∷ f)
+
+    down_step : Step Down
+    down_step m s ih t f e r = subst (InIdeal p n ds) back (in_add p n ds g (mul p cn.0 d.0) pos rest (in_mul p n ds cn.0 d.0 pos cn.1 (in_generator p n ds d.0 two hd d.1)))
+      where
+        hf : IsPoly p n (t ∷ f)
+        hf = in_poly p n is (t ∷ f) pos hi r
+
+        d : IsLeadMultiple ds t.mono
+        d = all t f r
+
+        hb : IsPoly p n d.0
+        hb = All-contains (IsPoly p n) ds d.0 hd d.1
+
+        cn : (a : List Term) × IsPoly p n a × EachMono (Low t.mono) (sub p (t ∷ f) (mul p a d.0))
+        cn = cancel t f d.0 hf hb (All-contains IsMonic ds d.0 mon d.1) d.2
+
+        g : List Term
+        g = sub p (t ∷ f) (mul p cn.0 d.0)
+
+        back : add p g (mul p cn.0 d.0) ≡ t ∷ f
+        back = sub_add p (t ∷ f) (mul p cn.0 d.0) pos hf.canonical
+
+        inside : InIdeal p n is g
+        inside = in_sub p n is (t ∷ f) (mul p cn.0 d.0) pos (poly_mul p n cn.0 d.0 pos cn.1 hb) r (in_mul p n is cn.0 d.0 pos cn.1 (All-contains (InIdeal p n is) ds d.0 mem d.1))
+
+        go : (w : List Term) → EachMono (Low t.mono) w → InIdeal p n is w → InIdeal p n ds w
+        go [] l k = in_none p n ds
+        go (v ∷ w) l k =
+            let a = (in_poly p n is (v ∷ w) pos hi k).affine.0 in
+            ih v.mono (record { seven = a.seven; plain = a.plain }) (ap (cmp_dp v.mono) (sym e) ∙ l.0) v w refl k
+
+        rest : InIdeal p n ds g
+        rest = go g cn.2 inside
+
+    -- members with all leads span the ideal
+    spans : (f : List Term) → InIdeal p n is f → InIdeal p n ds f
+    spans [] r = in_none p n ds
+    spans (t ∷ f) r =
+        let a = (in_poly p n is (t ∷ f) pos hi r).affine.0 in
+        descent Down down_step t.mono (record { seven = a.seven; plain = a.plain }) t f refl r
+
+    same_ideal : (f : List Term) → InIdeal p n ds f ↔ InIdeal p n is f
+    same_ideal f = (λ r. in_larger p n ds is f pos mem r, spans f)
+
+    -- a lead of the ideal that divides the lead of a member is that lead
+    only_itself : AreApart ds → (b : List Term) → Contains ds b → (w : Monomial) → IsLead p n ds w → Divides w (lead_mono b) → w ≡ lead_mono b
+    only_itself apart b c w (t, f, r, e) d =
+        let k = all t f ((same_ideal (t ∷ f)).0 r) in
+        let l : Divides (lead_mono k.0) w = subst (Divides (lead_mono k.0)) e k.2 in
+        let s : k.0 ≡ b = apart_same ds b k.0 apart c k.1 (divides_chain (lead_mono k.0) w (lead_mono b) l d) in
+        let up : Divides (lead_mono b) w = subst (λ q. Divides (lead_mono q) w) s l in
+        divides_both w (lead_mono b) (sevens w t f r e ∙ sym (seven_lead b (All-contains (IsPoly p n) ds b hd c))) d up
+      where
+        sevens : (w : Monomial) (t : Term) (f : List Term) → InIdeal p n ds (t ∷ f) → t.mono ≡ w → length w.exponents ≡ 7
+        sevens w t f r e = ap (λ (m : Monomial). length m.exponents) (sym e) ∙ (in_poly p n ds (t ∷ f) pos hd r).affine.0.seven
+
+        seven_lead : (b : List Term) → IsPoly p n b → length (lead_mono b).exponents ≡ 7
+        seven_lead [] h = refl
+        seven_lead (t ∷ f) h = h.affine.0.seven
+
+    member_lead : (b : List Term) → Contains ds b → IsLead p n ds (lead_mono b)
+    member_lead b c = go b (All-contains IsMonic ds b mon c) (in_generator p n ds b two hd c)
+      where
+        go : (b : List Term) → IsMonic b → InIdeal p n ds b → IsLead p n ds (lead_mono b)
+        go [] m r = absurd m
+        go (t ∷ f) m r = (t, f, r, refl)
+
+    reduced : AllPairs (λ m w. cmp_dp m w ≡ Less) (leads ds) → AreApart ds
+        → ((q : List Term) → Contains ds q → (m : Monomial) → Contains (lower_monos q) m → IsLeadMultiple ds m → ⊥) → IsReducedBasis p n (InIdeal p n is) ds
+    reduced rising apart low =
+        record {
+          reduced = record {
+            polys = hd;
+            monic = mon;
+            rising = rising;
+            minimal = λ m. (least m, found m);
+            lower = λ q c m k l. low q c m k (multiple m l);
+          };
+          exact = λ f h. same_ideal f;
+        }
+      where
+        multiple : (m : Monomial) → IsLead p n ds m → IsLeadMultiple ds m
+        multiple m (t, f, r, e) = subst (IsLeadMultiple ds) e (all t f ((same_ideal (t ∷ f)).0 r))
+
+        least : (m : Monomial) → Contains (leads ds) m → IsMinimalLead p n ds m
+        least m c =
+            let k = contained_lead ds m c in
+            subst (IsMinimalLead p n ds) k.3 (member_lead (k.0 ∷ k.1) k.2, only_itself apart (k.0 ∷ k.1) k.2)
+
+        found : (m : Monomial) → IsMinimalLead p n ds m → Contains (leads ds) m
+        found m h =
+            let k = multiple m h.0 in
+            subst (Contains (leads ds)) (h.1 (lead_mono k.0) (member_lead k.0 k.1) k.2) (lead_contained ds k.0 mon k.1)
+
+pub reduced_law : ReducedByAffineLeads
+reduced_law p n is ds prime hi hd mem all mon rising apart low = reduced p n prime is ds hi hd mem mon all rising apart low
+
+pub decides_law : RemainderDecides
+decides_law p n is ds v r prime hi all hv hr inside out = (zero, member)
+  where
+    h : 0 < p
+    h = pos p n prime
+
+    zero : r ≡ [] → InIdeal p n is v
+    zero e =
+        subst (InIdeal p n is) (sub_add p v r h hv.canonical) (in_add p n is (sub p v r) r h inside (subst (InIdeal p n is) (sym e) (in_none p n is)))
+
+    rest : InIdeal p n is v → InIdeal p n is r
+    rest k =
+        subst (InIdeal p n is) (taken p v r h hv.canonical hr.canonical)
+        (in_sub p n is v (sub p v r) h (poly_sub p n v r h hv hr) k inside)
+
+    member : InIdeal p n is v → r ≡ []
+    member k = go r (rest k) out
+      where
+        go : (r : List Term) → InIdeal p n is r → ((m : Monomial) → Contains (map (λ t. t.mono) r) m → IsLeadMultiple ds m → ⊥) → r ≡ []
+        go [] q o = refl
+        go (t ∷ f) q o = absurd (o t.mono (contains_head t.mono (map (λ u. u.mono) f)) (all t f q))
