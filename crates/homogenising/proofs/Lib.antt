@@ -7,3 +7,4 @@ mod Stays
 mod Descent
 mod Apart
 mod Spanning
+mod Found

@@ -2,7 +2,7 @@
 use Rattle.std.proofs.Common.{◌≡◌, ◌↔◌, ℕ, ◌+◌, ◌*◌, ◌-◌, ◌%◌, ◌<◌, zero, suc, List, [], ◌∷◌, ◌++◌, length, map, refl, sym, ap, ◌∙◌, subst, arith}
 use Rattle.std.specs.declared.cmp.Ordering.TheVariants.{Less, Greater}
 use Rattle.std.specs.List.{All, AllPairs, Contains}
-use Rattle.std.proofs.lemmas.List.Elements.{All-contains}
+use Rattle.std.proofs.lemmas.List.Elements.{All-nil, All-cons, All-head, All-tail, All-contains}
 use native.Mathlib.Nat.{mul-add-mod_self_left, mod-eq_of_lt}
 use Rattle.monomials.specs.Mono.{Monomial, pointwise, times, Divides, cmp_dp}
 use Rattle.monomials.proofs.Factors.{divides_law}
@@ -10,12 +10,12 @@ use Rattle.monomials.proofs.Order.{times_comm}
 use Rattle.prime_field.specs.Primes.{IsPrime}
 use Rattle.polys.specs.declared.term.Term.{Term}
 use Rattle.polys.specs.Terms.{EachMono, IsAffine, IsCanonical, IsPoly, IsMonic, OnlyFirst, add, sub, mul, multiple, scaled}
-use Rattle.polys.specs.Ideal.{InIdeal}
+use Rattle.polys.specs.Ideal.{InIdeal, combination}
 use Rattle.polys.specs.Reduced.{leads, lower_monos, IsLead, IsMinimalLead, IsReducedBasis}
 use Rattle.polys.proofs.Affine.{poly_sub, poly_mul, sevens_of}
 use Rattle.polys.proofs.Each.{every_more, every_normal, every_append, every_multiple}
 use Rattle.polys.proofs.Unique.{contains_head}
-use Rattle.polys.proofs.Ideals.{in_none, in_add, in_sub, in_mul, in_poly, in_generator, in_larger}
+use Rattle.polys.proofs.Ideals.{in_none, in_add, in_sub, in_mul, in_poly, in_generator}
 use Rattle.polys.proofs.Leads.{lead_of_mul, every_low}
 use Rattle.polys.proofs.Sums.{add_assoc, add_comm}
 use Rattle.polys.proofs.Units.{weigh-scaled, sub_self, add_none}
@@ -23,12 +23,12 @@ use Rattle.polys.proofs.Weights.{canon, weigh, weigh-append, weigh-normal, norma
 use Rattle.graded_modules.specs.Vector.{lead_mono}
 use Rattle.graded_modules.specs.Module.{IsLeadMultiple}
 use Rattle.graded_modules.specs.Bases.{AreApart}
-use Rattle.homogenising.specs.Laws.{HasAffineLeads, ReducedByAffineLeads, RemainderDecides}
+use Rattle.homogenising.specs.Laws.{ReducedByAffineLeads, RemainderDecides}
 use Rattle.homogenising.proofs.Descent.{Step, descent}
 use Rattle.homogenising.proofs.Apart.{apart_same, lead_contained, contained_lead, divides_chain, divides_both}
 
 -- a term that both have drops out of a difference
-sub_cons : (p : ℕ) (t : Term) (f g : List Term) → 0 < p → sub p (t ∷ f) (t ∷ g) ≡ sub p f g
+pub sub_cons : (p : ℕ) (t : Term) (f g : List Term) → 0 < p → sub p (t ∷ f) (t ∷ g) ≡ sub p f g
 unfolding weigh
 sub_cons zero t f g h = absurd (omega arith)
 sub_cons (suc k) t f g h =
@@ -53,11 +53,11 @@ sub_add p f g h c =
     ∙ add_none p f c
 
 -- what is added and taken away again
-add_sub : (p : ℕ) (f g : List Term) → 0 < p → IsCanonical p f → sub p (add p f g) g ≡ f
+pub add_sub : (p : ℕ) (f g : List Term) → 0 < p → IsCanonical p f → sub p (add p f g) g ≡ f
 add_sub p f g h c = add_assoc p f g (multiple p (p - 1) g) ∙ ap (add p f) (sub_self p g h) ∙ add_none p f c
 
 -- taking away a difference gives the other part
-taken : (p : ℕ) (f g : List Term) → 0 < p → IsCanonical p f → IsCanonical p g → sub p f (sub p f g) ≡ g
+pub taken : (p : ℕ) (f g : List Term) → 0 < p → IsCanonical p f → IsCanonical p g → sub p f (sub p f g) ≡ g
 taken p f g h b c = (λ i. sub p ((sym (sub_add p f g h b) ∙ add_comm p (sub p f g) g) i) (sub p f g)) ∙ add_sub p g (sub p f g) h c
 
 only_factor : (n : ℕ) (a c : List ℕ) → length a ≡ length c → OnlyFirst n (pointwise (λ x y. x + y) a c) → OnlyFirst n c
@@ -81,13 +81,13 @@ affine_factor n a b g h d =
     )
 
 module _ (p n : ℕ) (prime : IsPrime p) where
-  pos : 0 < p
+  pub pos : 0 < p
   pos = let h = prime.0 in omega arith
 
-  two : 1 < p
+  pub two : 1 < p
   two = let h = prime.0 in omega arith
 
-  abbrev Low : Monomial → Monomial → Type 0
+  abbrev pub Low : Monomial → Monomial → Type 0
   Low m x = cmp_dp x m ≡ Less
 
   lows : (t : Term) (f : List Term) → IsCanonical p (t ∷ f) → EachMono (Low t.mono) f
@@ -102,7 +102,7 @@ module _ (p n : ℕ) (prime : IsPrime p) where
       (every_append (Low t.mono) f (multiple p (p - 1) h) (lows t f c) (every_multiple (Low t.mono) p (p - 1) h (lows t h (subst (IsCanonical p) e d)))))
 
   -- the monic b, times what its lead lacks of t, cancels t
-  cancel : (t : Term) (f b : List Term) → IsPoly p n (t ∷ f) → IsPoly p n b → IsMonic b → Divides (lead_mono b) t.mono
+  pub cancel : (t : Term) (f b : List Term) → IsPoly p n (t ∷ f) → IsPoly p n b → IsMonic b → Divides (lead_mono b) t.mono
       → (a : List Term) × IsPoly p n a × EachMono (Low t.mono) (sub p (t ∷ f) (mul p a b))
   cancel t f [] hf hb m d = absurd m
   cancel t f (u ∷ g) hf hb m d = (w ∷ [], poly, lead_drops t f (mul p (w ∷ []) (u ∷ g)) hf.canonical (poly_mul p n (w ∷ []) (u ∷ g) pos poly hb).canonical product.0 same)
@@ -128,15 +128,52 @@ module _ (p n : ℕ) (prime : IsPrime p) where
       same : mul p (w ∷ []) (u ∷ g) ≡ t ∷ product.0
       same = product.1 ∙ (λ i. record { coeff = coeff i; mono = mono i } ∷ product.0)
 
-  module _ (is ds : List (List Term)) (hi : All (IsPoly p n) is) (hd : All (IsPoly p n) ds) (mem : All (InIdeal p n is) ds) (mon : All IsMonic ds) (all : HasAffineLeads p n is ds) where
+  -- a condition that sums, differences and multiples keep
+  pub record IsIdeal (C : List Term → Type 0) : Type 0 where
+    pub polys : (f : List Term) → C f → IsPoly p n f
+    pub none : C []
+    pub add : (f g : List Term) → C f → C g → C (add p f g)
+    pub sub : (f g : List Term) → C f → C g → C (sub p f g)
+    pub mul : (a f : List Term) → IsPoly p n a → C f → C (mul p a f)
+
+  pub generated : (is : List (List Term)) → All (IsPoly p n) is → IsIdeal (InIdeal p n is)
+  generated is hi =
+      record {
+        polys = λ f r. in_poly p n is f pos hi r;
+        none = in_none p n is;
+        add = λ f g r q. in_add p n is f g pos r q;
+        sub = λ f g r q. in_sub p n is f g pos (in_poly p n is g pos hi q) r q;
+        mul = λ a f h r. in_mul p n is a f pos h r;
+      }
+
+  -- the ideal of members is no larger
+  pub held : (C : List Term → Type 0) (ds : List (List Term)) → IsIdeal C → All C ds → (f : List Term) → InIdeal p n ds f → C f
+  held C ds c mem f r = subst C (sym r.combined) (go r.factors ds r.polys mem)
+    where
+      go : (qs ds : List (List Term)) → All (IsPoly p n) qs → All C ds → C (combination p qs ds)
+      go [] ds a m = c.none
+      go (q ∷ qs) [] a m = c.none
+      go (q ∷ qs) (d ∷ ds) a m =
+          c.add (mul p q d) (combination p qs ds) (c.mul q d (All-head (IsPoly p n) q qs a) (All-head C d ds m))
+          (go qs ds (All-tail (IsPoly p n) q qs a) (All-tail C d ds m))
+
+  module _ (C : List Term → Type 0) (c : IsIdeal C) (ds : List (List Term)) (mem : All C ds) (mon : All IsMonic ds)
+      (all : (t : Term) (f : List Term) → C (t ∷ f) → IsLeadMultiple ds t.mono) where
+    hd : All (IsPoly p n) ds
+    hd = All-map-of ds mem
+      where
+        All-map-of : (ds : List (List Term)) → All C ds → All (IsPoly p n) ds
+        All-map-of [] m = All-nil (IsPoly p n)
+        All-map-of (d ∷ ds) m = All-cons (IsPoly p n) d ds (c.polys d (All-head C d ds m)) (All-map-of ds (All-tail C d ds m))
+
     abbrev Down : Monomial → Type 0
-    Down m = (t : Term) (f : List Term) → t.mono ≡ m → InIdeal p n is (t ∷ f) → InIdeal p n ds (t ∷ f)
+    Down m = (t : Term) (f : List Term) → t.mono ≡ m → C (t ∷ f) → InIdeal p n ds (t ∷ f)
 
     down_step : Step Down
     down_step m s ih t f e r = subst (InIdeal p n ds) back (in_add p n ds g (mul p cn.0 d.0) pos rest (in_mul p n ds cn.0 d.0 pos cn.1 (in_generator p n ds d.0 two hd d.1)))
       where
         hf : IsPoly p n (t ∷ f)
-        hf = in_poly p n is (t ∷ f) pos hi r
+        hf = c.polys (t ∷ f) r
 
         d : IsLeadMultiple ds t.mono
         d = all t f r
@@ -153,27 +190,27 @@ module _ (p n : ℕ) (prime : IsPrime p) where
         back : add p g (mul p cn.0 d.0) ≡ t ∷ f
         back = sub_add p (t ∷ f) (mul p cn.0 d.0) pos hf.canonical
 
-        inside : InIdeal p n is g
-        inside = in_sub p n is (t ∷ f) (mul p cn.0 d.0) pos (poly_mul p n cn.0 d.0 pos cn.1 hb) r (in_mul p n is cn.0 d.0 pos cn.1 (All-contains (InIdeal p n is) ds d.0 mem d.1))
+        inside : C g
+        inside = c.sub (t ∷ f) (mul p cn.0 d.0) r (c.mul cn.0 d.0 cn.1 (All-contains C ds d.0 mem d.1))
 
-        go : (w : List Term) → EachMono (Low t.mono) w → InIdeal p n is w → InIdeal p n ds w
+        go : (w : List Term) → EachMono (Low t.mono) w → C w → InIdeal p n ds w
         go [] l k = in_none p n ds
         go (v ∷ w) l k =
-            let a = (in_poly p n is (v ∷ w) pos hi k).affine.0 in
+            let a = (c.polys (v ∷ w) k).affine.0 in
             ih v.mono (record { seven = a.seven; plain = a.plain }) (ap (cmp_dp v.mono) (sym e) ∙ l.0) v w refl k
 
         rest : InIdeal p n ds g
         rest = go g cn.2 inside
 
     -- members with all leads span the ideal
-    spans : (f : List Term) → InIdeal p n is f → InIdeal p n ds f
+    pub spans : (f : List Term) → C f → InIdeal p n ds f
     spans [] r = in_none p n ds
     spans (t ∷ f) r =
-        let a = (in_poly p n is (t ∷ f) pos hi r).affine.0 in
+        let a = (c.polys (t ∷ f) r).affine.0 in
         descent Down down_step t.mono (record { seven = a.seven; plain = a.plain }) t f refl r
 
-    same_ideal : (f : List Term) → InIdeal p n ds f ↔ InIdeal p n is f
-    same_ideal f = (λ r. in_larger p n ds is f pos mem r, spans f)
+    pub same_ideal : (f : List Term) → InIdeal p n ds f ↔ C f
+    same_ideal f = (held C ds c mem f, spans f)
 
     -- a lead of the ideal that divides the lead of a member is that lead
     only_itself : AreApart ds → (b : List Term) → Contains ds b → (w : Monomial) → IsLead p n ds w → Divides w (lead_mono b) → w ≡ lead_mono b
@@ -198,8 +235,8 @@ module _ (p n : ℕ) (prime : IsPrime p) where
         go [] m r = absurd m
         go (t ∷ f) m r = (t, f, r, refl)
 
-    reduced : AllPairs (λ m w. cmp_dp m w ≡ Less) (leads ds) → AreApart ds
-        → ((q : List Term) → Contains ds q → (m : Monomial) → Contains (lower_monos q) m → IsLeadMultiple ds m → ⊥) → IsReducedBasis p n (InIdeal p n is) ds
+    pub reduced : AllPairs (λ m w. cmp_dp m w ≡ Less) (leads ds) → AreApart ds
+        → ((q : List Term) → Contains ds q → (m : Monomial) → Contains (lower_monos q) m → IsLeadMultiple ds m → ⊥) → IsReducedBasis p n C ds
     reduced rising apart low =
         record {
           reduced = record {
@@ -226,7 +263,7 @@ module _ (p n : ℕ) (prime : IsPrime p) where
             subst (Contains (leads ds)) (h.1 (lead_mono k.0) (member_lead k.0 k.1) k.2) (lead_contained ds k.0 mon k.1)
 
 pub reduced_law : ReducedByAffineLeads
-reduced_law p n is ds prime hi hd mem all mon rising apart low = reduced p n prime is ds hi hd mem mon all rising apart low
+reduced_law p n is ds prime hi h mem all mon rising apart low = reduced p n prime (InIdeal p n is) (generated p n prime is hi) ds mem mon all rising apart low
 
 pub decides_law : RemainderDecides
 decides_law p n is ds v r prime hi all hv hr inside out = (zero, member)

@@ -24,24 +24,24 @@ use Rattle.homogenising.proofs.Monomials.{lower, lower_times, lower_divides, aff
 use Rattle.homogenising.proofs.Lifted.{Fits, fits, lifted, lowered, lowered_poly, lowered_lead, IsLevel, levels}
 
 module _ (p n : ℕ) (six : n ≤ 6) (pos : 0 < p) where
-  abbrev Both : Monomial → Type 0
+  abbrev pub Both : Monomial → Type 0
   Both m = IsGraded n m × IsPlain m
 
-  both : (q : List Term) → IsFactor p n q → EachMono Both q
+  pub both : (q : List Term) → IsFactor p n q → EachMono Both q
   both q h = every_zip (IsGraded n) IsPlain q h.vector.graded h.plain
 
-  factor_of : (g : List Term) → IsHomogeneousPoly p n g → IsFactor p n g
+  pub factor_of : (g : List Term) → IsHomogeneousPoly p n g → IsFactor p n g
   factor_of g h = record { vector = h.generator.vector; plain = h.plain }
 
   -- ---- from the graded ideal to the ideal
 
-  lower_factor : (q : List Term) → IsFactor p n q → IsPoly p n (dehomogenised p q)
+  pub lower_factor : (q : List Term) → IsFactor p n q → IsPoly p n (dehomogenised p q)
   lower_factor q h = poly_normal p n (image lower q) pos (every_image Both (IsAffine n) lower q (λ m x. affine_lower n six m x.0 x.1) (both q h))
 
-  lower_product : (q g : List Term) → IsFactor p n q → IsFactor p n g → dehomogenised p (mul p q g) ≡ mul p (dehomogenised p q) (dehomogenised p g)
+  pub lower_product : (q g : List Term) → IsFactor p n q → IsFactor p n g → dehomogenised p (mul p q g) ≡ mul p (dehomogenised p q) (dehomogenised p g)
   lower_product q g h k = sent-mul Both Both lower lower lower (λ a b x y. lower_times a b x.0.seven x.1 y.0.seven y.1) p q g (both q h) (both g k)
 
-  ideal_cons : (q g f : List Term) (gs : List (List Term)) → IsPoly p n q → InIdeal p n gs f → InIdeal p n (g ∷ gs) (add p (mul p q g) f)
+  pub ideal_cons : (q g f : List Term) (gs : List (List Term)) → IsPoly p n q → InIdeal p n gs f → InIdeal p n (g ∷ gs) (add p (mul p q g) f)
   ideal_cons q g f gs h r =
       record {
         factors = q ∷ r.factors;
@@ -68,7 +68,7 @@ module _ (p n : ℕ) (six : n ≤ 6) (pos : 0 < p) where
   pub lower_member : (gs : List (List Term)) (f : List Term) → All (IsHomogeneousPoly p n) gs → InModule p n gs f → InIdeal p n (all_dehomogenised p gs) (dehomogenised p f)
   lower_member gs f a r = subst (λ w. InIdeal p n (all_dehomogenised p gs) (dehomogenised p w)) (sym r.combined) (lower_combination r.factors gs r.polys a r.as_many)
 
-  lower_members : (gs qs : List (List Term)) → All (IsHomogeneousPoly p n) gs → All (InModule p n gs) qs → All (InIdeal p n (all_dehomogenised p gs)) (all_dehomogenised p qs)
+  pub lower_members : (gs qs : List (List Term)) → All (IsHomogeneousPoly p n) gs → All (InModule p n gs) qs → All (InIdeal p n (all_dehomogenised p gs)) (all_dehomogenised p qs)
   lower_members gs [] a b = All-nil (InIdeal p n (all_dehomogenised p gs))
   lower_members gs (q ∷ qs) a b =
       All-cons (InIdeal p n (all_dehomogenised p gs)) (dehomogenised p q) (all_dehomogenised p qs) (lower_member gs q a (All-head (InModule p n gs) q qs b))
@@ -83,7 +83,7 @@ module _ (p n : ℕ) (six : n ≤ 6) (pos : 0 < p) where
   leaves : (K e : ℕ) (q : List Term) → IsPoly p n q → degree_of q + e ≤ K → EachMono (Leaves K e) q
   leaves K e q h l = every_more (Fits p n six (degree_of q)) (Leaves K e) q (λ m x. (x.0, (let d = x.1 in omega arith))) (fits p n six q h)
 
-  lift_factor : (K : ℕ) (q : List Term) → IsPoly p n q → IsFactor p n (sent p (lift K) q)
+  pub lift_factor : (K : ℕ) (q : List Term) → IsPoly p n q → IsFactor p n (sent p (lift K) q)
   lift_factor K q h =
       record {
         vector = record {
@@ -93,7 +93,7 @@ module _ (p n : ℕ) (six : n ≤ 6) (pos : 0 < p) where
         plain = every_normal IsPlain p (image (lift K) q) (every_image (IsAffine n) IsPlain (lift K) q (λ m x. x.plain) h.affine);
       }
 
-  lift_back : (g : List Term) (h : IsHomogeneousPoly p n g) → sent p (lift h.generator.homogeneous.0) (dehomogenised p g) ≡ g
+  pub lift_back : (g : List Term) (h : IsHomogeneousPoly p n g) → sent p (lift h.generator.homogeneous.0) (dehomogenised p g) ≡ g
   lift_back g h =
       ap (sent p (lift h.generator.homogeneous.0)) (lowered p n six g h)
       ∙ ap (normal p)
@@ -108,7 +108,7 @@ module _ (p n : ℕ) (six : n ≤ 6) (pos : 0 < p) where
       (every_image (IsLevel p n six h.generator.homogeneous.0) (Fits p n six h.generator.homogeneous.0) lower g
       (λ m x. (affine_lower n six m x.graded x.plain, (let d = degree_lower n six m x.graded x.plain in let e = x.degree in omega arith))) (levels p n six g h))
 
-  lift_product : (K : ℕ) (q g : List Term) (h : IsHomogeneousPoly p n g) → IsPoly p n q → degree_of q + h.generator.homogeneous.0 ≤ K
+  pub lift_product : (K : ℕ) (q g : List Term) (h : IsHomogeneousPoly p n g) → IsPoly p n q → degree_of q + h.generator.homogeneous.0 ≤ K
       → sent p (lift K) (mul p q (dehomogenised p g)) ≡ mul p (sent p (lift (K - h.generator.homogeneous.0)) q) g
   lift_product K q g h k l =
       let e = h.generator.homogeneous.0 in
@@ -116,7 +116,7 @@ module _ (p n : ℕ) (six : n ≤ 6) (pos : 0 < p) where
       (leaves K e q k l) (lowered_fits g h)
       ∙ ap (mul p (sent p (lift (K - e)) q)) (lift_back g h)
 
-  module_cons : (q g f : List Term) (gs : List (List Term)) → IsFactor p n q → InModule p n gs f → InModule p n (g ∷ gs) (add p (mul p q g) f)
+  pub module_cons : (q g f : List Term) (gs : List (List Term)) → IsFactor p n q → InModule p n gs f → InModule p n (g ∷ gs) (add p (mul p q g) f)
   module_cons q g f gs h r =
       record {
         factors = q ∷ r.factors;
@@ -133,7 +133,7 @@ module _ (p n : ℕ) (six : n ≤ 6) (pos : 0 < p) where
       (module_cons (sent p (lift (K - h.generator.homogeneous.0)) q) g (sent p (lift K) rest) gs (lift_factor (K - h.generator.homogeneous.0) q a) (r K (omega arith)))
 
   -- lifted far enough a combination over the ideal is one over the graded ideal
-  lift_combination : (qs gs : List (List Term)) → All (IsPoly p n) qs → All (IsHomogeneousPoly p n) gs → length qs ≡ length gs
+  pub lift_combination : (qs gs : List (List Term)) → All (IsPoly p n) qs → All (IsHomogeneousPoly p n) gs → length qs ≡ length gs
       → (k : ℕ) × ((K : ℕ) → k ≤ K → InModule p n gs (sent p (lift K) (combination p qs (all_dehomogenised p gs))))
   lift_combination [] [] a b l = (0, λ K h. record { factors = []; polys = All-nil (IsFactor p n); as_many = refl; combined = refl })
   lift_combination [] (g ∷ gs) a b l = absurd (omega arith)
@@ -144,7 +144,7 @@ module _ (p n : ℕ) (six : n ≤ 6) (pos : 0 < p) where
       let ih = lift_combination qs gs (All-tail (IsPoly p n) q qs a) (All-tail (IsHomogeneousPoly p n) g gs b) (omega arith) in
       (degree_of q + hg.generator.homogeneous.0 + ih.0, λ K h. lift_step q g (combination p qs (all_dehomogenised p gs)) gs hg hq ih.0 K ih.1 h)
 
-  lower_polys : (gs : List (List Term)) → All (IsHomogeneousPoly p n) gs → All (IsPoly p n) (all_dehomogenised p gs)
+  pub lower_polys : (gs : List (List Term)) → All (IsHomogeneousPoly p n) gs → All (IsPoly p n) (all_dehomogenised p gs)
   lower_polys [] a = All-nil (IsPoly p n)
   lower_polys (g ∷ gs) a =
       All-cons (IsPoly p n) (dehomogenised p g) (all_dehomogenised p gs) (lowered_poly p n six g (All-head (IsHomogeneousPoly p n) g gs a))
@@ -162,7 +162,7 @@ module _ (p n : ℕ) (six : n ≤ 6) (pos : 0 < p) where
       let m : InModule p n gs (sent p (lift K) (t ∷ f)) = subst (λ w. InModule p n gs (sent p (lift K) w)) (sym r.combined) (c.1 K (omega arith)) in
       (K, (record { coeff = t.coeff; mono = lift K t.mono }, image (lift K) f, subst (InModule p n gs) e m, refl))
 
-  contains_map : (qs : List (List Term)) (b : List Term) → Contains qs b → Contains (all_dehomogenised p qs) (dehomogenised p b)
+  pub contains_map : (qs : List (List Term)) (b : List Term) → Contains qs b → Contains (all_dehomogenised p qs) (dehomogenised p b)
   contains_map qs b (i, l, e) = (i, (let k = length-map qs (dehomogenised p) in omega arith), at qs i b l e)
     where
       at : (qs : List (List Term)) (i : ℕ) (b : List Term) → i < length qs → get_or qs i b ≡ b → get_or (all_dehomogenised p qs) i (dehomogenised p b) ≡ dehomogenised p b
@@ -170,11 +170,11 @@ module _ (p n : ℕ) (six : n ≤ 6) (pos : 0 < p) where
       at (q ∷ qs) zero b l e = ap (dehomogenised p) e
       at (q ∷ qs) (suc i) b l e = at qs i b (omega arith) e
 
-  lead_seven : (b : List Term) → IsHomogeneousPoly p n b → (length (lead_mono b).exponents ≡ 7) × IsPlain (lead_mono b)
+  pub lead_seven : (b : List Term) → IsHomogeneousPoly p n b → (length (lead_mono b).exponents ≡ 7) × IsPlain (lead_mono b)
   lead_seven [] h = (refl, refl)
   lead_seven (t ∷ f) h = (h.generator.vector.graded.0.seven, h.plain.0)
 
-  lower_leads : (gs qs : List (List Term)) → All (IsHomogeneousPoly p n) gs → All (IsHomogeneousPoly p n) qs → HasAllLeads p n gs qs
+  pub lower_leads : (gs qs : List (List Term)) → All (IsHomogeneousPoly p n) gs → All (IsHomogeneousPoly p n) qs → HasAllLeads p n gs qs
       → HasAffineLeads p n (all_dehomogenised p gs) (all_dehomogenised p qs)
   lower_leads gs qs a b h t f r =
       let aff = (in_poly p n (all_dehomogenised p gs) (t ∷ f) pos (lower_polys gs a) r).affine.0 in

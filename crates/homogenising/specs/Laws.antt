@@ -7,7 +7,7 @@ use Rattle.polys.specs.declared.term.Term.{Term}
 use Rattle.polys.specs.Terms.{EachMono, IsPoly, IsMonic, degree_of, sub}
 use Rattle.polys.specs.Poly.{IsPlain}
 use Rattle.polys.specs.Ideal.{InIdeal}
-use Rattle.polys.specs.Reduced.{leads, lower_monos, IsReducedBasis}
+use Rattle.polys.specs.Reduced.{leads, lower_monos, Reduced, IsReducedBasis}
 use Rattle.graded_modules.specs.Vector.{IsGenerator, HasDegree, lead_mono}
 use Rattle.graded_modules.specs.Module.{InModule, IsLeadMultiple}
 use Rattle.graded_modules.specs.Bases.{AreApart, HasAllLeads}
@@ -53,6 +53,10 @@ ReducedByAffineLeads =
     → All IsMonic ds → AllPairs (λ m w. cmp_dp m w ≡ Less) (leads ds) → AreApart ds
     → ((q : List Term) → Contains ds q → (m : Monomial) → Contains (lower_monos q) m → IsLeadMultiple ds m → ⊥)
     → IsReducedBasis p n (InIdeal p n is) ds
+
+-- a reduced basis has all leads of its ideal
+abbrev pub ReducedHasLeads : Type 0
+ReducedHasLeads = (p n : ℕ) (ds : List (List Term)) → IsPrime p → Reduced p n ds → HasAffineLeads p n ds ds
 
 -- a remainder none of whose monomials is a multiple of a lead is 0 exactly for members
 abbrev pub RemainderDecides : Type 0
