@@ -1,0 +1,3 @@
+pub mod Graded
+pub mod Sums
+pub mod Members
