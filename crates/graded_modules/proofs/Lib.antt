@@ -1,3 +1,7 @@
+pub mod Cofactors
 pub mod Graded
-pub mod Sums
 pub mod Members
+pub mod Multiples
+pub mod SVectors
+pub mod Sums
+pub mod Tops

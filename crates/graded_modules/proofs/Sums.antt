@@ -2,13 +2,15 @@
 use Rattle.std.proofs.Common.{◌≡◌, ℕ, ◌+◌, ◌-◌, ◌*◌, ◌%◌, ◌<◌, List, [], ◌∷◌, ◌++◌, refl, sym, ap, ◌∙◌, arith, append-nil}
 use native.Mathlib.Nat.{mod-mod}
 use Rattle.std.proofs.lemmas.Nat.{mul-mod}
-use Rattle.monomials.specs.Mono.{Monomial, times}
+use Rattle.monomials.specs.Mono.{Monomial, times, unit}
 use Rattle.polys.specs.declared.term.Term.{Term}
-use Rattle.polys.specs.Terms.{normal, add, sub, scaled, multiple, products, mul}
+use Rattle.polys.specs.Terms.{EachMono, normal, add, sub, scaled, multiple, products, mul}
 use Rattle.polys.proofs.Weights.{weigh, Alike, weigh-append, weigh-normal, normal_ext, mod_plus}
-use Rattle.polys.proofs.Sums.{normal_normal, add_comm, add_assoc, add_normal_left, add_normal_right, mul_assoc, mul_normal_left, mul_normal_right, weigh-products}
+use Rattle.polys.proofs.Sums.{normal_normal, add_comm, add_assoc, add_normal_left, add_normal_right, mul_assoc, mul_comm, add-mul, mul_normal_left, mul_normal_right, weigh-products}
 use Rattle.polys.proofs.Units.{weigh-scaled, sub_self}
 use Rattle.polys.proofs.Products.{mul-append}
+use Rattle.polys.proofs.Leads.{Seven}
+use Rattle.polys.proofs.Affine.{mul_constant}
 
 -- ---- multiples by numbers
 
@@ -38,6 +40,37 @@ multiple-mul p c q g = mul_normal_left p (scaled c q) g ∙ normal_ext p (produc
         ap (λ (n : ℕ). n % p) (weigh-products χ (scaled c q) g ∙ weigh-scaled (λ m. weigh (λ n. χ (times m n)) g) c q ∙ ap (λ (n : ℕ). c * n) (sym (weigh-products χ q g)))
         ∙ mod_times p c (weigh χ (products q g)) (weigh χ (mul p q g)) (sym (weigh-normal p χ (products q g)))
         ∙ ap (λ (n : ℕ). n % p) (sym (weigh-scaled χ c (mul p q g)))
+
+pub multiple_multiple : (p a c : ℕ) (f : List Term) → multiple p a (multiple p c f) ≡ multiple p (a * c) f
+multiple_multiple p a c f = normal_ext p (scaled a (multiple p c f)) (scaled (a * c) f) same
+  where
+    same : Alike p (scaled a (multiple p c f)) (scaled (a * c) f)
+    same χ =
+        let assoc : a * (c * weigh χ f) ≡ (a * c) * weigh χ f = omega arith in
+        ap (λ (n : ℕ). n % p) (weigh-scaled χ a (multiple p c f))
+        ∙ mod_times p a (weigh χ (multiple p c f)) (c * weigh χ f) (weigh_multiple p c χ f)
+        ∙ ap (λ (n : ℕ). n % p) (assoc ∙ sym (weigh-scaled χ (a * c) f))
+
+pub multiple_residue : (p c d : ℕ) (f : List Term) → c % p ≡ d % p → multiple p c f ≡ multiple p d f
+multiple_residue p c d f e = normal_ext p (scaled c f) (scaled d f) same
+  where
+    same : Alike p (scaled c f) (scaled d f)
+    same χ =
+        let x : c * weigh χ f ≡ weigh χ f * c = omega arith in
+        let y : weigh χ f * d ≡ d * weigh χ f = omega arith in
+        ap (λ (n : ℕ). n % p) (weigh-scaled χ c f ∙ x) ∙ mod_times p (weigh χ f) c d e ∙ ap (λ (n : ℕ). n % p) (y ∙ sym (weigh-scaled χ d f))
+
+pub multiple_one : (p : ℕ) (f : List Term) → multiple p 1 f ≡ normal p f
+multiple_one p f = normal_ext p (scaled 1 f) f (λ χ. let x : 1 * weigh χ f ≡ weigh χ f = omega arith in ap (λ (n : ℕ). n % p) (weigh-scaled χ 1 f ∙ x))
+
+pub multiple_zero : (p : ℕ) (f : List Term) → multiple p 0 f ≡ []
+unfolding weigh
+multiple_zero p f = normal_ext p (scaled 0 f) [] (λ χ. let x : 0 * weigh χ f ≡ 0 = omega arith in ap (λ (n : ℕ). n % p) (weigh-scaled χ 0 f ∙ x))
+
+pub multiple-normal : (p c : ℕ) (f : List Term) → multiple p c (normal p f) ≡ multiple p c f
+multiple-normal p c f =
+    normal_ext p (scaled c (normal p f)) (scaled c f)
+    (λ χ. ap (λ (n : ℕ). n % p) (weigh-scaled χ c (normal p f)) ∙ mod_times p c (weigh χ (normal p f)) (weigh χ f) (weigh-normal p χ f) ∙ ap (λ (n : ℕ). n % p) (sym (weigh-scaled χ c f)))
 
 -- ---- differences
 
@@ -93,3 +126,62 @@ mul_two p c d m f =
   where
     same : Alike p (record { coeff = c; mono = m } ∷ record { coeff = d; mono = m } ∷ []) (record { coeff = c + d; mono = m } ∷ [])
     same χ = let q : c * χ m + (d * χ m + 0) ≡ (c + d) * χ m + 0 = omega arith in ap (λ (n : ℕ). n % p) q
+
+-- the number times a term of a product
+pub multiple_term : (p c : ℕ) (f : List Term) (t : Term) → multiple p c (mul p f (t ∷ [])) ≡ mul p f (record { coeff = c * t.coeff; mono = t.mono } ∷ [])
+multiple_term p c f t =
+    ap (multiple p c) (mul_comm p f (t ∷ []))
+    ∙ sym (multiple-mul p c (t ∷ []) f)
+    ∙ mul_normal_left p (record { coeff = c * t.coeff; mono = t.mono } ∷ []) f
+    ∙ mul_comm p (record { coeff = c * t.coeff; mono = t.mono } ∷ []) f
+
+pub mul_number : (p c : ℕ) (f : List Term) → EachMono Seven f → mul p f (record { coeff = c; mono = unit } ∷ []) ≡ multiple p c f
+mul_number p c f h =
+    mul_comm p f (record { coeff = c; mono = unit } ∷ [])
+    ∙ sym (mul_normal_left p (record { coeff = c; mono = unit } ∷ []) f)
+    ∙ mul_constant p c f h
+
+-- ---- chains of differences
+
+pub sub_chain : (p : ℕ) (x y w z z' : List Term) → 0 < p → sub p x y ≡ z → sub p y w ≡ z' → sub p x w ≡ add p z' z
+sub_chain p x y w z z' h e k =
+    to_sub p x w (add p z' z) h
+    (from_sub p x y z h e
+    ∙ sym (add_normal_left p y z)
+    ∙ ap (λ v. add p v z) (from_sub p y w z' h k)
+    ∙ add_assoc p w z' z)
+    ∙ normal_normal p (z' ++ z)
+
+pub sub_swap : (p : ℕ) (x y z : List Term) → 0 < p → sub p x y ≡ z → sub p y x ≡ multiple p (p - 1) z
+sub_swap p x y z h e =
+    to_sub p y x (multiple p (p - 1) z) h
+    (sym (sym (add_normal_left p x (multiple p (p - 1) z))
+    ∙ ap (λ v. add p v (multiple p (p - 1) z)) (from_sub p x y z h e)
+    ∙ add_assoc p y z (multiple p (p - 1) z)
+    ∙ ap (add p y) (sub_self p z h)
+    ∙ ap (normal p) (append-nil y)))
+    ∙ normal_normal p (scaled (p - 1) z)
+
+-- a term that both have drops out
+pub sub_cons : (p : ℕ) (t : Term) (x y : List Term) → 0 < p → sub p (t ∷ x) (t ∷ y) ≡ sub p x y
+sub_cons p t x y h =
+    to_sub p (t ∷ x) (t ∷ y) (sub p x y) h
+    (sym (add_normal_right p (t ∷ []) x)
+    ∙ ap (add p (t ∷ [])) (from_sub p x y (sub p x y) h refl)
+    ∙ sym (add_assoc p (t ∷ []) y (sub p x y))
+    ∙ add_normal_left p (t ∷ y) (sub p x y))
+    ∙ normal_normal p (x ++ multiple p (p - 1) y)
+
+-- a difference times a number
+pub sub_times : (p c : ℕ) (x y z : List Term) → 0 < p → sub p x y ≡ z → multiple p c x ≡ add p (multiple p c y) (multiple p c z)
+sub_times p c x y z h e = sym (multiple-normal p c x) ∙ ap (multiple p c) (from_sub p x y z h e) ∙ multiple-add p c y z
+
+-- a difference of products with a term
+pub sub_by : (p : ℕ) (x y z : List Term) (u : Term) → 0 < p → sub p x y ≡ z → sub p (mul p x (u ∷ [])) (mul p y (u ∷ [])) ≡ mul p z (u ∷ [])
+sub_by p x y z u h e =
+    to_sub p (mul p x (u ∷ [])) (mul p y (u ∷ [])) (mul p z (u ∷ [])) h
+    (normal_normal p (products x (u ∷ []))
+    ∙ sym (mul_normal_left p x (u ∷ []))
+    ∙ ap (λ v. mul p v (u ∷ [])) (from_sub p x y z h e)
+    ∙ add-mul p y z (u ∷ []))
+    ∙ normal_normal p (products z (u ∷ []))
