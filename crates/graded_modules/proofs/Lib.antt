@@ -3,5 +3,6 @@ pub mod Graded
 pub mod Members
 pub mod Multiples
 pub mod SVectors
+pub mod Settled
 pub mod Sums
 pub mod Tops
