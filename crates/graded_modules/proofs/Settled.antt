@@ -26,7 +26,7 @@ use Rattle.graded_modules.proofs.SVectors.{positive, above_one, swap_settled, ch
 
 -- ---- a division
 
-sub_none : (p : ℕ) (f : List Term) → 0 < p → sub p f [] ≡ normal p f
+pub sub_none : (p : ℕ) (f : List Term) → 0 < p → sub p f [] ≡ normal p f
 sub_none p f h = to_sub p f [] f h refl
 
 -- the inverse of the number that made r monic is its lead's coefficient
