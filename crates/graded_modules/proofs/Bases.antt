@@ -1,23 +1,23 @@
 -- Buchberger's criterion, degree by degree.
-use Rattle.std.proofs.Common.{◌≡◌, ◌≢◌, ◌⊎◌, inl, inr, ℕ, ◌+◌, ◌*◌, ◌<◌, ◌≤◌, zero, suc, List, [], ◌∷◌, length, get_or, refl, sym, ap, ◌∙◌, subst, arith}
+use Rattle.std.proofs.Common.{◌≡◌, ◌≢◌, ◌⊎◌, inl, inr, ℕ, ◌<◌, ◌≤◌, zero, suc, List, [], ◌∷◌, length, get_or, refl, sym, ap, ◌∙◌, subst, arith}
 use Rattle.std.specs.List.{All, AllPairs, Contains}
 use Rattle.std.proofs.lemmas.List.Elements.{All-head, All-tail, All-contains, All-weaker, Contains-get_or}
 use Rattle.monomials.specs.Mono.{Monomial, Divides, common_multiple}
 use Rattle.prime_field.specs.Primes.{IsPrime}
 use Rattle.polys.specs.declared.term.Term.{Term}
-use Rattle.polys.specs.Terms.{EachMono, IsMonic, mul, add}
+use Rattle.polys.specs.Terms.{IsMonic}
 use Rattle.polys.proofs.Each.{every_more}
-use Rattle.polys.proofs.Unique.{contains_head, contains_tail, contains_cases, contains_none}
-use Rattle.graded_modules.specs.Vector.{IsGraded, IsGradedVector, IsGenerator, IsUpTo, degree_at, lead_mono}
-use Rattle.graded_modules.specs.Module.{InModule, IsLead, IsLeadUpTo, IsLeast, IsLeadMultiple}
-use Rattle.graded_modules.specs.Deep.{HasHighVector, HasHighPair, IsDeep}
-use Rattle.graded_modules.specs.SVector.{Multiple, total, top, lead_lcm, IsSettled}
-use Rattle.graded_modules.specs.Bases.{AreApart, AreSettled, IsBasisBelow, HasAllLeads, SpanOneModule}
+use Rattle.polys.proofs.Unique.{contains_cases, contains_none}
+use Rattle.graded_modules.specs.Vector.{IsGraded, IsGradedVector, IsGenerator, degree_at, lead_mono}
+use Rattle.graded_modules.specs.Module.{InModule, IsLeadUpTo, IsLeast, IsLeadMultiple}
+use Rattle.graded_modules.specs.Deep.{HasHighPair, IsDeep}
+use Rattle.graded_modules.specs.SVector.{Multiple, total, lead_lcm, IsSettled}
+use Rattle.graded_modules.specs.Bases.{AreApart, IsBasisBelow, HasAllLeads, SpanOneModule}
 use Rattle.graded_modules.specs.Laws.{BasisLaws}
 use Rattle.graded_modules.proofs.Graded.{lead_graded, degree_times}
 use Rattle.graded_modules.proofs.Members.{in_none, in_add, in_product, in_vector, in_larger}
 use Rattle.graded_modules.proofs.Cofactors.{same_shape, divides_trans, divides_both, divides_same, divides_degree, lcm_comm}
-use Rattle.graded_modules.proofs.SVectors.{positive, above_one, swap_settled, self_settled, same_degrees}
+use Rattle.graded_modules.proofs.SVectors.{positive, swap_settled, self_settled, same_degrees}
 use Rattle.graded_modules.proofs.Descent.{IsSummand, value, lead_of_total}
 use Rattle.graded_modules.proofs.Parts.{part, part_head, member_part}
 
@@ -99,7 +99,7 @@ module _ (p n shift : ℕ) (gs : List (List Term)) (prime : IsPrime p) (given : 
       let c = (in_vector p n bs (t ∷ part shift d f) pos (All-weaker (IsGenerator p n shift) (IsGradedVector p n) (λ f h. h.vector) bs h.vectors) low).canonical in
       let y = member_part shift d p n bs h.vectors (t ∷ part shift d f) c low in
       lead_of_total p n shift bs d prime h.vectors h.monic (λ b c hb hc one q. all_settled bs e h b c hb hc one (omega arith)) t (part shift d (part shift d f)) y.0 y.1
-      (sym (part_head shift d t (part shift d f) refl) ∙ y.2)
+      (subst (λ w. w ≡ total p y.0) (part_head shift d t (part shift d f) refl) y.2)
 
   low_leads : (bs : List (List Term)) (e : ℕ) (m : Monomial) → IsBasisBelow p n shift gs bs (suc e) → IsLeadUpTo p n shift gs e m → IsLeadMultiple bs m
   low_leads bs e m h (t, f, a, u, q) = subst (IsLeadMultiple bs) q (lead_known bs e h t f a u.0)
@@ -215,9 +215,10 @@ module _ (p n shift : ℕ) (gs : List (List Term)) (prime : IsPrime p) (given : 
     all_leads m (t, f, a, q) = subst (IsLeadMultiple bs) q (lead_known bs (degree_at shift t.mono) (at_every (degree_at shift t.mono)) t f a (omega arith))
 
     one_module : SpanOneModule p n gs bs
-    one_module f =
-        (in_larger p n gs bs f pos (λ k d l. inside' k d l),
-        in_larger p n bs gs f pos h.members)
+    one_module f = (
+      in_larger p n gs bs f pos (λ k d l. inside' k d l),
+      in_larger p n bs gs f pos h.members,
+    )
       where
         inside' : (k : ℕ) (d : List Term) → k < length gs → InModule p n bs (get_or gs k d)
         inside' k d l = inside (get_or gs k d) (Contains-get_or gs k d l)

@@ -1,16 +1,15 @@
 -- Divisors, cofactors and least common multiples of graded monomials.
-use Rattle.std.proofs.Common.{◌≡◌, ℕ, ◌+◌, ◌-◌, ◌*◌, ◌<◌, ◌≤◌, zero, suc, List, [], ◌∷◌, length, get_or, max, refl, sym, ap, ◌∙◌, subst, arith}
-use Rattle.std.specs.declared.cmp.Ordering.TheVariants.{Less}
-use Rattle.monomials.specs.Mono.{Monomial, pointwise, times, unit, common_multiple, total_degree, Divides, cmp_dp}
+use Rattle.std.proofs.Common.{◌≡◌, ℕ, ◌+◌, ◌-◌, ◌*◌, ◌≤◌, suc, List, [], ◌∷◌, length, get_or, max, refl, sym, ap, ◌∙◌, arith}
+use Rattle.monomials.specs.Mono.{Monomial, pointwise, times, common_multiple, total_degree, Divides}
 use Rattle.monomials.specs.Laws.{SameLength}
-use Rattle.monomials.proofs.Exponents.{plus, pointwise_comm, total_degree_le, total_degree-plus}
+use Rattle.monomials.proofs.Exponents.{plus, pointwise_comm, total_degree_le}
 use Rattle.monomials.proofs.Factors.{lcm_law, divides_law}
-use Rattle.monomials.proofs.Order.{times_comm, times_assoc, times_cancel, times_one}
+use Rattle.monomials.proofs.Order.{times_comm, times_assoc, times_cancel}
 use Rattle.polys.specs.Poly.{IsPlain}
 use Rattle.polys.proofs.Units.{seven_times}
 use Rattle.graded_modules.specs.Vector.{IsGraded, degree_at}
 use Rattle.graded_modules.specs.SVector.{cofactor}
-use Rattle.graded_modules.proofs.Graded.{graded_pointwise, degree_times}
+use Rattle.graded_modules.proofs.Graded.{graded_pointwise}
 
 abbrev minus : List ℕ → List ℕ → List ℕ
 minus = pointwise (λ x y. y - x)

@@ -1,5 +1,5 @@
 -- Where all pairs up to a degree are settled, the lead of each sum of multiples of that degree is a multiple of a lead.
-use Rattle.std.proofs.Common.{◌≡◌, ◌⊎◌, inl, inr, ℕ, ◌+◌, ◌-◌, ◌*◌, ◌%◌, ◌<◌, ◌≤◌, zero, suc, List, [], ◌∷◌, ◌++◌, map, refl, sym, ap, ◌∙◌, subst, arith}
+use Rattle.std.proofs.Common.{◌≡◌, ◌⊎◌, inl, inr, ℕ, ◌+◌, ◌*◌, ◌%◌, ◌<◌, ◌≤◌, zero, suc, List, [], ◌∷◌, ◌++◌, map, refl, sym, ap, ◌∙◌, subst, arith}
 use native.Mathlib.Nat.{mod-lt}
 use Rattle.std.specs.List.{All, Contains}
 use Rattle.std.proofs.lemmas.List.Elements.{All-nil, All-cons, All-head, All-tail, All-append, All-weaker, All-contains}
@@ -60,7 +60,12 @@ module _ (p n shift : ℕ) (bs : List (List Term)) (e : ℕ) where
 
   below_trans : (k m : Monomial) (s : Multiple) → cmp_dp k m ≡ Less → degree_at shift k ≡ degree_at shift m → IsBelow p n shift bs k s → IsBelow p n shift bs m s
   below_trans k m s c d h = record {
-    member = h.member; residue = h.residue; graded = h.graded; plain = h.plain; below = dp_total.trans (top s) k m h.below c; degree = h.degree ∙ d;
+    member = h.member;
+    residue = h.residue;
+    graded = h.graded;
+    plain = h.plain;
+    below = dp_total.trans (top s) k m h.below c;
+    degree = h.degree ∙ d;
   }
 
   more_rank : (N : ℕ) (f : List Term) → HasTop N f → HasTop (suc N) f
@@ -119,9 +124,9 @@ module _ (p n shift : ℕ) (bs : List (List Term)) (e : ℕ) where
     below_at N m ss gm dm r h =
         All-weaker (IsBelow p n shift bs m) (IsAt N)
         (λ s b.
-            let is = below_summand m s dm b in
-            let l = rank_rises n shift e (top s) m (top_g s is) gm is.degree dm b.below in
-            (is, (omega arith))) ss h
+        let is = below_summand m s dm b in
+        let l = rank_rises n shift e (top s) m (top_g s is) gm is.degree dm b.below in
+        (is, (omega arith))) ss h
 
     module _ (N : ℕ) (ih : (ss : List Multiple) → All (IsAt N) ss → HasTop N (total p ss)) where
       -- two multiples with one top, and others below
@@ -182,7 +187,7 @@ module _ (p n shift : ℕ) (bs : List (List Term)) (e : ℕ) where
                     positive = l;
                     rest = r ∷ t.rest;
                     lower = All-cons (IsBelow p n shift bs (top s)) r t.rest (summand_below (top s) r hs.0.degree low t.is.0)
-                    (All-weaker (IsBelow p n shift bs (top r)) (IsBelow p n shift bs (top s)) (λ v b. below_trans (top r) (top s) v low (t.is.0.degree ∙ sym hs.0.degree) b) t.rest t.lower);
+                        (All-weaker (IsBelow p n shift bs (top r)) (IsBelow p n shift bs (top s)) (λ v b. below_trans (top r) (top s) v low (t.is.0.degree ∙ sym hs.0.degree) b) t.rest t.lower);
                     sum = ap (add p (value p s)) t.sum;
                   })
               by Less q = inr (record {
@@ -233,10 +238,11 @@ module _ (p n shift : ℕ) (bs : List (List Term)) (e : ℕ) where
         go : (f : List Term) → IsGenerator p n shift f → EachMono (λ w. ((w ≡ lead_mono f) ⊎ Lower (lead_mono f) w) × Seven w) f
         go [] h = tt
         go (u ∷ f) h =
-            let sevens = each_seven n (u ∷ f) h.vector.graded in
-            ((inl refl, sevens.0),
-            every_more (λ w. Lower u.mono w × Seven w) (λ w. ((w ≡ u.mono) ⊎ Lower u.mono w) × Seven w) f (λ w q. (inr q.0, q.1))
-            (every_zip (Lower u.mono) Seven f (tail_below p u f h.vector.canonical) sevens.1))
+            let sevens = each_seven n (u ∷ f) h.vector.graded in (
+              (inl refl, sevens.0),
+              every_more (λ w. Lower u.mono w × Seven w) (λ w. ((w ≡ u.mono) ⊎ Lower u.mono w) × Seven w) f (λ w q. (inr q.0, q.1))
+                  (every_zip (Lower u.mono) Seven f (tail_below p u f h.vector.canonical) sevens.1),
+            )
 
     value_below : (m : Monomial) (s : Multiple) → IsBelow p n shift bs m s → EachMono (Lower m) (value p s)
     value_below m s b =

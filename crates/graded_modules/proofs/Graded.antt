@@ -1,6 +1,6 @@
 -- Sums and products of vectors are vectors.
-use Rattle.std.proofs.Common.{◌≡◌, ℕ, ◌+◌, ◌-◌, ◌*◌, ◌<◌, ◌≤◌, zero, suc, List, [], ◌∷◌, ◌++◌, length, take, replicate, max, refl, sym, ap, ◌∙◌, subst, arith}
-use Rattle.monomials.specs.Mono.{Monomial, pointwise, times, unit, total_degree}
+use Rattle.std.proofs.Common.{◌≡◌, ℕ, ◌+◌, ◌-◌, ◌<◌, ◌≤◌, zero, suc, List, [], ◌∷◌, ◌++◌, take, replicate, refl, arith}
+use Rattle.monomials.specs.Mono.{Monomial, pointwise, times, unit}
 use Rattle.monomials.proofs.Exponents.{length-pointwise, total_degree-plus}
 use Rattle.polys.specs.declared.term.Term.{Term}
 use Rattle.polys.specs.Terms.{EachMono, OnlyFirst, normal, add, sub, multiple, scaled, mul, products, one}
@@ -9,7 +9,7 @@ use Rattle.polys.proofs.Weights.{is_canonical, normal_canon}
 use Rattle.polys.proofs.Each.{every_normal, every_add, every_multiple, every_more, every_products}
 use Rattle.polys.proofs.Units.{plain_times, canonical_one}
 use Rattle.polys.proofs.Leads.{Seven}
-use Rattle.graded_modules.specs.Vector.{IsGraded, IsGradedVector, IsFactor, HasDegree, degree_at, lead_mono}
+use Rattle.graded_modules.specs.Vector.{IsGraded, IsGradedVector, IsFactor, degree_at, lead_mono}
 
 -- ---- monomials
 

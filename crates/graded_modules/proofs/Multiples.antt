@@ -1,23 +1,20 @@
 -- Sums of multiples of vectors.
-use Rattle.std.proofs.Common.{◌≡◌, ℕ, ◌+◌, ◌-◌, ◌*◌, ◌%◌, ◌<◌, zero, suc, List, [], ◌∷◌, ◌++◌, length, map, refl, sym, ap, ◌∙◌, subst, arith}
+use Rattle.std.proofs.Common.{◌≡◌, ℕ, ◌+◌, ◌*◌, ◌%◌, ◌<◌, List, [], ◌∷◌, ◌++◌, map, refl, sym, ap, ◌∙◌, subst}
 use native.Mathlib.Nat.{mod-lt, mod-mod}
 use Rattle.std.specs.List.{All, Contains}
 use Rattle.std.proofs.lemmas.List.Elements.{All-nil, All-cons, All-head, All-tail, All-append, All-map, All-weaker, All-contains}
-use Rattle.std.specs.declared.cmp.Ordering.TheVariants.{Less}
-use Rattle.monomials.specs.Mono.{Monomial, times, unit, cmp_dp, Divides}
-use Rattle.monomials.proofs.Order.{times_assoc, times_one, cmp_dp-times, dp_total}
-use Rattle.prime_field.specs.Primes.{IsPrime}
+use Rattle.monomials.specs.Mono.{Monomial, times, cmp_dp}
+use Rattle.monomials.proofs.Order.{times_assoc, cmp_dp-times}
 use Rattle.polys.specs.declared.term.Term.{Term}
-use Rattle.polys.specs.Terms.{EachMono, IsMonic, normal, add, sub, mul, multiple, products}
+use Rattle.polys.specs.Terms.{normal, add, mul, multiple}
 use Rattle.polys.specs.Poly.{IsPlain}
-use Rattle.polys.proofs.Sums.{normal_normal, add_comm, add_assoc, add-mul, mul_comm}
-use Rattle.polys.proofs.Units.{plain_times, seven_times, sub_self}
-use Rattle.graded_modules.specs.Vector.{IsGraded, IsGradedVector, IsGenerator, degree_at, lead_mono}
-use Rattle.graded_modules.specs.SVector.{cofactor, monomial_multiple, raised, lead_lcm, s_vector, Multiple, total, top, IsBelow, IsSumBelow, IsSettled}
-use Rattle.graded_modules.specs.Laws.{ArePaired}
-use Rattle.graded_modules.proofs.Graded.{graded_times, graded_unit, degree_times, lead_graded}
-use Rattle.graded_modules.proofs.Cofactors.{same_shape, cofactor_steps, graded_cofactor, graded_lcm, times_cofactor, divides_trans, lcm_left, lcm_right, lcm_comm}
-use Rattle.graded_modules.proofs.Sums.{term_times, mul_terms, mul_residue, from_sub, to_sub, multiple-add, multiple_term}
+use Rattle.polys.proofs.Sums.{normal_normal, add_assoc, add-mul}
+use Rattle.polys.proofs.Units.{plain_times}
+use Rattle.graded_modules.specs.Vector.{IsGraded, IsGenerator, degree_at, lead_mono}
+use Rattle.graded_modules.specs.SVector.{Multiple, total, top, IsBelow, IsSumBelow}
+use Rattle.graded_modules.proofs.Graded.{graded_times, degree_times, lead_graded}
+use Rattle.graded_modules.proofs.Cofactors.{same_shape}
+use Rattle.graded_modules.proofs.Sums.{mul_terms, mul_residue, multiple-add, multiple_term}
 
 pub normal-total : (p : ℕ) (ss : List Multiple) → normal p (total p ss) ≡ total p ss
 normal-total p [] = refl
@@ -58,7 +55,12 @@ module _ (p n shift : ℕ) where
   below_more bs cs m f h a = record {
     multiples = a.multiples;
     each = All-weaker (IsBelow p n shift bs m) (IsBelow p n shift cs m) (λ s b. record {
-      member = h s.vector b.member; residue = b.residue; graded = b.graded; plain = b.plain; below = b.below; degree = b.degree;
+      member = h s.vector b.member;
+      residue = b.residue;
+      graded = b.graded;
+      plain = b.plain;
+      below = b.below;
+      degree = b.degree;
     }) a.multiples a.each;
     sum = a.sum;
   }
@@ -77,7 +79,12 @@ module _ (p n shift : ℕ) where
   below_multiple bs m c f pos a = record {
     multiples = map (times_number p c) a.multiples;
     each = All-map (IsBelow p n shift bs m) (times_number p c) a.multiples (All-weaker (IsBelow p n shift bs m) (λ s. IsBelow p n shift bs m (times_number p c s)) (λ s b. record {
-      member = b.member; residue = mod-lt (c * s.term.coeff) pos; graded = b.graded; plain = b.plain; below = b.below; degree = b.degree;
+      member = b.member;
+      residue = mod-lt (c * s.term.coeff) pos;
+      graded = b.graded;
+      plain = b.plain;
+      below = b.below;
+      degree = b.degree;
     }) a.multiples a.each);
     sum = ap (multiple p c) a.sum ∙ total-times_number p c a.multiples;
   }

@@ -1,13 +1,11 @@
 -- The terms of one degree of a member are a sum of multiples of that degree.
-use Rattle.std.proofs.Common.{◌≡◌, ℕ, ◌+◌, ◌*◌, ◌%◌, ◌<◌, ◌≤◌, zero, suc, List, [], ◌∷◌, ◌++◌, cond, Bool, true, false, ◌==◌, length, refl, sym, ap, ◌∙◌, subst, arith, eqb-true, eq-eqb}
-use native.Mathlib.Nat.{zero-mod}
-use Rattle.std.proofs.lemmas.Bool.{eqb-false}
+use Rattle.std.proofs.Common.{◌≡◌, ℕ, ◌+◌, ◌*◌, ◌%◌, List, [], ◌∷◌, ◌++◌, cond, Bool, true, false, ◌==◌, refl, sym, ap, ◌∙◌, subst, arith, eqb-true, eq-eqb}
 use Rattle.std.specs.List.{All, Contains}
 use Rattle.std.proofs.lemmas.List.Elements.{All-nil, All-cons, All-head, All-tail, All-append, All-contains, All-contains_itself}
 use Rattle.std.specs.declared.cmp.Ordering.TheVariants.{Greater}
 use Rattle.monomials.specs.Mono.{Monomial, times, cmp_dp}
 use Rattle.polys.specs.declared.term.Term.{Term}
-use Rattle.polys.specs.Terms.{IsCanonical, EachMono, Under, normal, add, mul, scale, products}
+use Rattle.polys.specs.Terms.{IsCanonical, EachMono, mul, scale, products}
 use Rattle.polys.specs.Poly.{IsPlain}
 use Rattle.polys.specs.Ideal.{combination}
 use Rattle.polys.proofs.Weights.{weigh, weigh-append, weigh-normal, canon, normal_ext, mod_plus}
@@ -163,8 +161,10 @@ module _ (shift d : ℕ) where
     -- the part of a member is a sum of multiples of this degree
     pub member_part : (f : List Term) → IsCanonical p f → InModule p n gs f → (ss : List Multiple) × All (IsSummand p n shift gs d) ss × (part shift d f ≡ total p ss)
     member_part f k h =
-        let x = combination_part h.factors gs (All-contains_itself gs) h.polys in
-        (x.multiples, x.each,
-        sym (canonical_same p (part shift d f) (canonical_part p f k))
-        ∙ normal_ext p (part shift d f) (total p x.multiples) (λ χ. ap (λ (w : ℕ). w % p) (weigh-part χ f ∙ ap (weigh (at shift d χ)) h.combined) ∙ x.same χ)
-        ∙ normal-total p x.multiples)
+        let x = combination_part h.factors gs (All-contains_itself gs) h.polys in (
+          x.multiples,
+          x.each,
+          sym (canonical_same p (part shift d f) (canonical_part p f k))
+              ∙ normal_ext p (part shift d f) (total p x.multiples) (λ χ. ap (λ (w : ℕ). w % p) (weigh-part χ f ∙ ap (weigh (at shift d χ)) h.combined) ∙ x.same χ)
+              ∙ normal-total p x.multiples,
+        )

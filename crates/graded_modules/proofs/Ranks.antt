@@ -1,11 +1,10 @@
 -- A number for each monomial of one degree, which grows with dp.
-use Rattle.std.proofs.Common.{◌≡◌, ℕ, ◌+◌, ◌-◌, ◌*◌, ◌<◌, ◌≤◌, zero, suc, List, [], ◌∷◌, ◌++◌, length, refl, sym, ap, ◌∙◌, subst, arith, mul-le-mul_left}
+use Rattle.std.proofs.Common.{◌≡◌, ℕ, ◌+◌, ◌-◌, ◌*◌, ◌<◌, ◌≤◌, suc, List, [], ◌∷◌, ◌++◌, length, refl, sym, ap, ◌∙◌, arith, mul-le-mul_left}
 use Rattle.std.specs.declared.cmp.Ordering.{Ordering}
 use Rattle.std.specs.declared.cmp.Ordering.TheVariants.{Less, Equal, Greater}
 use Rattle.std.specs.Ordering.{ordering_then, nat_cmp}
 use Rattle.std.specs.Cmp.{nat_cmp_is, ranked}
 use Rattle.monomials.specs.Mono.{Monomial, total_degree, cmp_last, cmp_dp}
-use Rattle.monomials.proofs.Order.{same_dp}
 use Rattle.graded_modules.specs.Vector.{IsGraded, degree_at}
 
 -- the last entry counts most, and the smaller entry is greater

@@ -1,14 +1,13 @@
 -- Reduced bases, and the normal form.
-use Rattle.std.proofs.Common.{◌≡◌, ◌↔◌, ◌⊎◌, inl, inr, ℕ, ◌+◌, ◌-◌, ◌*◌, ◌%◌, ◌<◌, ◌≤◌, zero, suc, List, [], ◌∷◌, length, map, get_or, refl, sym, ap, ◌∙◌, subst, arith}
+use Rattle.std.proofs.Common.{◌≡◌, ◌⊎◌, inl, inr, ℕ, ◌+◌, ◌-◌, ◌*◌, ◌%◌, ◌<◌, zero, suc, List, [], ◌∷◌, map, get_or, refl, sym, ap, ◌∙◌, subst, arith}
 use native.Mathlib.Nat.{mod-eq_of_lt}
-use Rattle.std.specs.List.{All, AllPairs, Contains}
+use Rattle.std.specs.List.{All, Contains}
 use Rattle.std.proofs.lemmas.List.Elements.{All-contains, All-weaker, All-head, All-tail, Contains-get_or}
-use Rattle.std.specs.declared.cmp.Ordering.TheVariants.{Less}
-use Rattle.monomials.specs.Mono.{Monomial, times, cmp_dp, Divides}
+use Rattle.monomials.specs.Mono.{Monomial, times, Divides}
 use Rattle.prime_field.specs.Primes.{IsPrime}
 use Rattle.polys.specs.declared.term.Term.{Term}
-use Rattle.polys.specs.Terms.{EachMono, IsMonic, normal, add, sub, mul, multiple}
-use Rattle.polys.specs.Reduced.{leads, lower_monos}
+use Rattle.polys.specs.Terms.{EachMono, IsMonic, sub, mul, multiple}
+use Rattle.polys.specs.Reduced.{leads}
 use Rattle.polys.proofs.Sums.{add_comm}
 use Rattle.polys.proofs.Units.{canonical_same}
 use Rattle.polys.proofs.Each.{every_more, every_add, every_multiple}
@@ -17,7 +16,7 @@ use Rattle.polys.proofs.Unique.{contains_head, contains_tail, contains_cases, co
 use Rattle.graded_modules.specs.Vector.{IsGraded, IsGradedVector, IsGenerator, HasDegree, degree_at, lead_mono}
 use Rattle.graded_modules.specs.Module.{InModule, IsLead, IsLeast, IsLeadMultiple}
 use Rattle.graded_modules.specs.SVector.{cofactor}
-use Rattle.graded_modules.specs.Bases.{AreApart, HasAllLeads, IsReduced, SpanOneModule, IsNormalForm}
+use Rattle.graded_modules.specs.Bases.{AreApart, HasAllLeads, SpanOneModule}
 use Rattle.graded_modules.specs.Laws.{ReducedByLeads, RemainderIsNormal}
 use Rattle.graded_modules.proofs.Graded.{each_seven, lead_graded}
 use Rattle.graded_modules.proofs.Members.{in_none, in_add, in_sub, in_product, in_generator, in_vector, in_larger}
@@ -25,7 +24,7 @@ use Rattle.graded_modules.proofs.Cofactors.{same_shape, graded_cofactor, times_c
 use Rattle.graded_modules.proofs.Sums.{from_sub, to_sub, sub_cons}
 use Rattle.graded_modules.proofs.Settled.{sub_none}
 use Rattle.graded_modules.proofs.Tops.{Lower, tail_below, product_is, product_below}
-use Rattle.graded_modules.proofs.SVectors.{positive, above_one, same_degrees, product_degree}
+use Rattle.graded_modules.proofs.SVectors.{positive, above_one, product_degree}
 use Rattle.graded_modules.proofs.Ranks.{rank, rank_rises}
 use Rattle.graded_modules.proofs.Bases.{apart_same}
 
@@ -97,10 +96,10 @@ module _ (p n shift : ℕ) (gs qs : List (List Term)) (prime : IsPrime p) (given
             member = in_sub p n gs (t ∷ f) product pos m (inside gs (All-contains (InModule p n gs) qs (u ∷ g) members c));
             homogeneous = every_add (λ m. degree_at shift m ≡ e) p (t ∷ f) (multiple p (p - 1) product) h (every_multiple (λ m. degree_at shift m ≡ e) p (p - 1) product deg);
             lower = subst (EachMono (Lower t.mono)) (sym drops)
-            (every_add (Lower t.mono) p f (multiple p (p - 1) tail) (tail_below p t f v.canonical)
-            (every_multiple (Lower t.mono) p (p - 1) tail (subst (λ x. EachMono (Lower x) tail) top_is (product_below p w u g hq.vector.canonical sevens))));
+                (every_add (Lower t.mono) p f (multiple p (p - 1) tail) (tail_below p t f v.canonical)
+                (every_multiple (Lower t.mono) p (p - 1) tail (subst (λ x. EachMono (Lower x) tail) top_is (product_below p w u g hq.vector.canonical sevens))));
             back = λ k. subst (InModule p n qs) (sym (from_sub p (t ∷ f) product (sub p (t ∷ f) product) pos refl) ∙ canonical_same p (t ∷ f) v.canonical)
-            (in_add p n qs product (sub p (t ∷ f) product) pos (inside qs (in_generator p n qs (u ∷ g) (above_one p prime) own_vectors c)) k);
+                (in_add p n qs product (sub p (t ∷ f) product) pos (inside qs (in_generator p n qs (u ∷ g) (above_one p prime) own_vectors c)) k);
           }
 
       go : IsLeadMultiple qs t.mono → IsStep e t f
@@ -153,13 +152,15 @@ module _ (p n shift : ℕ) (gs qs : List (List Term)) (prime : IsPrime p) (given
 
   listed_least : AreApart qs → (m : Monomial) → Contains (leads qs) m → IsLeast (IsLead p n qs) m
   listed_least apart m c =
-      let x = listed_lead qs monic m c in
-      (subst (IsLead p n qs) x.2 (own_lead x.0 x.1), λ w k d.
-      let y = own_leads w k in
-      let dq : Divides w (lead_mono x.0) = subst (Divides w) (sym x.2) d in
-      let same : y.0 ≡ x.0 = apart_same qs apart y.0 x.0 y.1 x.1 (divides_trans (lead_mono y.0) w (lead_mono x.0) y.2 dq) in
-      divides_both w m (same_shape n w m (lead_shape w k) (subst (IsGraded n) x.2 (lead_graded n x.0 (All-contains (IsGradedVector p n) qs x.0 own_vectors x.1).graded))) d
-      (subst (λ v. Divides v w) (ap lead_mono same ∙ x.2) y.2))
+      let x = listed_lead qs monic m c in (
+        subst (IsLead p n qs) x.2 (own_lead x.0 x.1),
+        λ w k d.
+            let y = own_leads w k in
+            let dq : Divides w (lead_mono x.0) = subst (Divides w) (sym x.2) d in
+            let same : y.0 ≡ x.0 = apart_same qs apart y.0 x.0 y.1 x.1 (divides_trans (lead_mono y.0) w (lead_mono x.0) y.2 dq) in
+            divides_both w m (same_shape n w m (lead_shape w k) (subst (IsGraded n) x.2 (lead_graded n x.0 (All-contains (IsGradedVector p n) qs x.0 own_vectors x.1).graded))) d
+            (subst (λ v. Divides v w) (ap lead_mono same ∙ x.2) y.2),
+      )
 
   least_listed : (m : Monomial) → IsLeast (IsLead p n qs) m → Contains (leads qs) m
   least_listed m k =

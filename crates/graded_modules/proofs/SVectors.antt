@@ -1,30 +1,25 @@
 -- S-vectors and what settles a pair.
-use Rattle.std.proofs.Common.{◌≡◌, ◌≢◌, ℕ, ◌+◌, ◌-◌, ◌*◌, ◌%◌, ◌<◌, zero, suc, List, [], ◌∷◌, ◌++◌, length, map, refl, sym, ap, ◌∙◌, subst, arith}
+use Rattle.std.proofs.Common.{◌≡◌, ℕ, ◌+◌, ◌-◌, ◌*◌, ◌%◌, ◌<◌, List, [], ◌∷◌, map, refl, sym, ap, ◌∙◌, subst, arith}
 use native.Mathlib.Nat.{mod-eq_of_lt}
-use Rattle.std.specs.List.{All, Contains}
-use Rattle.std.proofs.lemmas.List.Elements.{All-nil, All-cons, Contains-append_left, Contains-push}
+use Rattle.std.specs.List.{All}
 use Rattle.std.specs.declared.cmp.Ordering.TheVariants.{Less}
-use Rattle.monomials.specs.Mono.{Monomial, times, unit, common_multiple, cmp_dp, Divides}
-use Rattle.monomials.proofs.Order.{times_one}
+use Rattle.monomials.specs.Mono.{Monomial, times, cmp_dp, Divides}
 use Rattle.monomials.proofs.Factors.{lcm_law}
 use Rattle.prime_field.specs.Primes.{IsPrime}
 use Rattle.polys.specs.declared.term.Term.{Term}
-use Rattle.polys.specs.Terms.{IsCanonical, EachMono, IsMonic, IsMonicOf, normal, add, sub, mul, multiple, products, scaled}
-use Rattle.polys.specs.Poly.{IsPlain}
-use Rattle.polys.proofs.Sums.{normal_normal, add_comm}
-use Rattle.polys.proofs.Units.{canonical_same, sub_self}
-use Rattle.polys.proofs.Each.{every_add, every_normal, every_append, every_multiple, every_more, every_products}
-use Rattle.polys.proofs.Leads.{Seven}
-use Rattle.polys.proofs.Products.{times_term, times_residue, multiple_by_residue}
+use Rattle.polys.specs.Terms.{EachMono, IsMonic, sub, mul, multiple, products}
+use Rattle.polys.proofs.Units.{sub_self}
+use Rattle.polys.proofs.Each.{every_add, every_normal, every_multiple, every_more, every_products}
+use Rattle.polys.proofs.Products.{times_term}
 use Rattle.graded_modules.specs.Vector.{IsGraded, IsGradedVector, IsGenerator, HasDegree, degree_at, lead_mono}
 use Rattle.graded_modules.specs.Module.{InModule}
-use Rattle.graded_modules.specs.SVector.{cofactor, raised, lead_lcm, s_vector, Multiple, total, top, IsBelow, IsSumBelow, IsSettled}
+use Rattle.graded_modules.specs.SVector.{cofactor, raised, lead_lcm, s_vector, IsSumBelow, IsSettled}
 use Rattle.graded_modules.specs.Laws.{ArePaired, SVectorLaws}
-use Rattle.graded_modules.proofs.Graded.{graded_times, graded_unit, degree_times, lead_graded, each_seven, vector_mul, vector_sub}
+use Rattle.graded_modules.proofs.Graded.{degree_times, lead_graded, each_seven, vector_mul, vector_sub}
 use Rattle.graded_modules.proofs.Members.{in_product, in_sub}
 use Rattle.graded_modules.proofs.Cofactors.{same_shape, cofactor_steps, graded_cofactor, graded_lcm, times_cofactor, lcm_left, lcm_right, lcm_comm}
-use Rattle.graded_modules.proofs.Sums.{sub_cons, mul_terms, sub_chain, sub_swap, sub_by, from_sub, mul_number, multiple_multiple, multiple_residue, multiple_one, multiple_zero}
-use Rattle.graded_modules.proofs.Multiples.{below_more, below_none, below_add, below_multiple, below_mul}
+use Rattle.graded_modules.proofs.Sums.{sub_cons, mul_terms, sub_chain, sub_swap, sub_by}
+use Rattle.graded_modules.proofs.Multiples.{below_none, below_add, below_multiple, below_mul}
 use Rattle.graded_modules.proofs.Tops.{Lower, product_is, product_below}
 
 pub positive : (p : ℕ) → IsPrime p → 0 < p
@@ -137,10 +132,11 @@ module _ (p n shift : ℕ) where
       let v : Term = record { coeff = 1; mono = cofactor u.mono m } in
       let sevens = each_seven n (u ∷ f) h.vector.graded in
       let top_is : times u.mono (cofactor u.mono m) ≡ m = times_cofactor u.mono m (same_shape n u.mono m (h.vector.graded.0) gm) d in
-      let coeff_is : (u.coeff * 1) % p ≡ 1 = let q : u.coeff * 1 ≡ 1 = omega (arith, monic) in ap (λ (k : ℕ). k % p) q ∙ mod-eq_of_lt (above_one p prime) in
-      (map (times_term p v) f,
-      product_is p v u f prime (omega arith) (above_one p prime) h.vector.canonical sevens ∙ (λ i. record { coeff = coeff_is i; mono = top_is i } ∷ map (times_term p v) f),
-      subst (λ w. EachMono (Lower w) (map (times_term p v) f)) top_is (product_below p v u f h.vector.canonical sevens))
+      let coeff_is : (u.coeff * 1) % p ≡ 1 = let q : u.coeff * 1 ≡ 1 = omega (arith, monic) in ap (λ (k : ℕ). k % p) q ∙ mod-eq_of_lt (above_one p prime) in (
+        map (times_term p v) f,
+        product_is p v u f prime (omega arith) (above_one p prime) h.vector.canonical sevens ∙ (λ i. record { coeff = coeff_is i; mono = top_is i } ∷ map (times_term p v) f),
+        subst (λ w. EachMono (Lower w) (map (times_term p v) f)) top_is (product_below p v u f h.vector.canonical sevens),
+      )
 
   pub difference_below : (f g : List Term) (m : Monomial) → IsPrime p → IsGenerator p n shift f → IsGenerator p n shift g → IsMonic f → IsMonic g → IsGraded n m
       → Divides (lead_mono f) m → Divides (lead_mono g) m → EachMono (Lower m) (sub p (raised p f m) (raised p g m))

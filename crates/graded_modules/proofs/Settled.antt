@@ -1,10 +1,10 @@
 -- What settles a pair: a division, and two criteria.
 use Rattle.std.proofs.Common.{◌≡◌, ◌≢◌, ℕ, ◌+◌, ◌-◌, ◌*◌, ◌%◌, ◌<◌, ◌≤◌, zero, suc, List, [], ◌∷◌, ◌++◌, length, map, max, refl, sym, ap, ◌∙◌, subst, arith}
 use native.Mathlib.Nat.{mod-eq_of_lt}
-use Rattle.std.specs.List.{All, Contains}
+use Rattle.std.specs.List.{Contains}
 use Rattle.std.proofs.lemmas.List.Elements.{All-nil, All-cons, Contains-append_left, Contains-push}
-use Rattle.monomials.specs.Mono.{Monomial, pointwise, times, unit, common_multiple, total_degree, cmp_dp, Divides}
-use Rattle.monomials.proofs.Exponents.{plus, total_degree-plus}
+use Rattle.monomials.specs.Mono.{Monomial, pointwise, times, unit, total_degree, cmp_dp}
+use Rattle.monomials.proofs.Exponents.{plus}
 use Rattle.monomials.proofs.Order.{times_one, times_comm, cmp_dp-times}
 use Rattle.prime_field.specs.Primes.{IsPrime}
 use Rattle.polys.specs.declared.term.Term.{Term}
@@ -14,13 +14,13 @@ use Rattle.polys.proofs.Sums.{normal_normal, add_comm, add_assoc, add_normal_rig
 use Rattle.polys.proofs.Units.{canonical_same}
 use Rattle.polys.proofs.Each.{every_scaled, every_normal}
 use Rattle.polys.proofs.Products.{times_residue, multiple_by_residue, mul-append}
-use Rattle.graded_modules.specs.Vector.{IsGraded, IsGradedVector, IsGenerator, HasDegree, degree_at, lead_mono}
-use Rattle.graded_modules.specs.SVector.{cofactor, raised, lead_lcm, s_vector, Multiple, total, top, IsBelow, IsSumBelow, IsSettled}
+use Rattle.graded_modules.specs.Vector.{IsGraded, IsGradedVector, HasDegree, degree_at, lead_mono}
+use Rattle.graded_modules.specs.SVector.{cofactor, raised, lead_lcm, s_vector, Multiple, top, IsBelow, IsSumBelow, IsSettled}
 use Rattle.graded_modules.specs.Laws.{ArePaired, SettledLaws}
 use Rattle.graded_modules.proofs.Graded.{graded_times, graded_unit, degree_times, lead_graded, each_seven}
 use Rattle.graded_modules.proofs.Cofactors.{cofactor_times}
 use Rattle.graded_modules.proofs.Sums.{from_sub, to_sub, mul_number, multiple_multiple, multiple_residue, multiple_one, multiple_zero}
-use Rattle.graded_modules.proofs.Multiples.{below_more, below_add, below_multiple, below_same}
+use Rattle.graded_modules.proofs.Multiples.{below_more, below_add, below_multiple}
 use Rattle.graded_modules.proofs.Tops.{Lower, tail_below}
 use Rattle.graded_modules.proofs.SVectors.{positive, above_one, swap_settled, chain_settled, same_degrees}
 

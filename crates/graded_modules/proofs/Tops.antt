@@ -1,16 +1,16 @@
 -- The lead of a vector's product with one term, and all that lies below it.
-use Rattle.std.proofs.Common.{◌≡◌, ℕ, ◌+◌, ◌-◌, ◌*◌, ◌%◌, ◌<◌, zero, suc, List, [], ◌∷◌, ◌++◌, cond, Bool, true, false, ◌==◌, map, refl, sym, ap, ◌∙◌, subst, arith, eqb-true}
+use Rattle.std.proofs.Common.{◌≡◌, ℕ, ◌<◌, List, [], ◌∷◌, ◌++◌, cond, Bool, true, false, ◌==◌, map, refl, sym, ap, ◌∙◌, arith, eqb-true}
 use native.Mathlib.Nat.{mod-eq_of_lt}
 use Rattle.std.specs.declared.cmp.Ordering.TheVariants.{Less, Greater}
 use Rattle.monomials.specs.Mono.{Monomial, times, cmp_dp}
 use Rattle.monomials.proofs.Order.{cmp_dp-times}
 use Rattle.prime_field.specs.Primes.{IsPrime}
 use Rattle.polys.specs.declared.term.Term.{Term}
-use Rattle.polys.specs.Terms.{IsCanonical, EachMono, Under, keep, put, normal, add, mul}
+use Rattle.polys.specs.Terms.{IsCanonical, EachMono, Under, keep, normal, add, mul}
 use Rattle.polys.proofs.Weights.{turn_down, turn_up, canon}
 use Rattle.polys.proofs.Each.{every_more, every_append, every_normal, every_under}
 use Rattle.polys.proofs.Leads.{Seven, every_low, put_above}
-use Rattle.polys.proofs.Products.{times_term, product_by_term, pos_product}
+use Rattle.polys.proofs.Products.{times_term, product_by_term}
 
 abbrev pub Lower : Monomial → Monomial → Type 0
 Lower m w = cmp_dp w m ≡ Less
