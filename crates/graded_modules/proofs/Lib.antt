@@ -1,6 +1,7 @@
 pub mod Bases
 pub mod Cofactors
 pub mod Descent
+pub mod Examples
 pub mod Graded
 pub mod Members
 pub mod Multiples

@@ -1,5 +1,5 @@
 -- Sums of multiples of vectors.
-use Rattle.std.proofs.Common.{◌≡◌, ℕ, ◌+◌, ◌*◌, ◌%◌, ◌<◌, List, [], ◌∷◌, ◌++◌, map, refl, sym, ap, ◌∙◌, subst}
+use Rattle.std.proofs.Common.{◌≡◌, ℕ, ◌+◌, ◌*◌, ◌%◌, ◌<◌, List, [], ◌∷◌, ◌++◌, map, refl, sym, ap, ◌∙◌}
 use native.Mathlib.Nat.{mod-lt, mod-mod}
 use Rattle.std.specs.List.{All, Contains}
 use Rattle.std.proofs.lemmas.List.Elements.{All-nil, All-cons, All-head, All-tail, All-append, All-map, All-weaker, All-contains}
@@ -88,12 +88,6 @@ module _ (p n shift : ℕ) where
     }) a.multiples a.each);
     sum = ap (multiple p c) a.sum ∙ total-times_number p c a.multiples;
   }
-
-  pub normal-below : (bs : List (List Term)) (m : Monomial) (f : List Term) → IsSumBelow p n shift bs m f → normal p f ≡ f
-  normal-below bs m f a = ap (normal p) a.sum ∙ normal-total p a.multiples ∙ sym a.sum
-
-  pub below_same : (bs : List (List Term)) (m : Monomial) (f g : List Term) → f ≡ normal p g → IsSumBelow p n shift bs m g → IsSumBelow p n shift bs m f
-  below_same bs m f g e a = subst (IsSumBelow p n shift bs m) (sym (e ∙ normal-below bs m g a)) a
 
   module _ (bs : List (List Term)) (pos : 0 < p) (vectors : All (IsGenerator p n shift) bs) where
     pub lead_of : (b : List Term) → Contains bs b → IsGraded n (lead_mono b)
