@@ -1,4 +1,5 @@
 // Laws of graded modules and their bases: each function has an empty body, and its contract is the law.
+ghost use Rattle.graded_modules.specs.Examples.{TwoVariables};
 ghost use Rattle.graded_modules.specs.Laws.{ModuleLaws, SVectorLaws, SettledLaws, BasisLaws, ReducedByLeads, RemainderIsNormal};
 
 /// A module holds its generators, sums, differences and multiples.
@@ -32,4 +33,9 @@ pub fn bases_are_reduced_by_their_leads()
 /// A remainder by a reduced basis is the normal form.
 pub fn remainders_are_normal_forms()
     ensures { RemainderIsNormal }
+{}
+
+/// An example by hand: the ideal of x and y is deep under the degree 1, and not under 2.
+pub fn two_variables_are_deep_below_their_product()
+    ensures { TwoVariables }
 {}
