@@ -1,0 +1,14 @@
+pub mod Bases
+pub mod Cofactors
+pub mod Descent
+pub mod Examples
+pub mod Graded
+pub mod Members
+pub mod Multiples
+pub mod Parts
+pub mod Ranks
+pub mod Reduced
+pub mod SVectors
+pub mod Settled
+pub mod Sums
+pub mod Tops

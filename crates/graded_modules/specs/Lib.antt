@@ -1,5 +1,6 @@
 pub mod Bases
 pub mod Deep
+pub mod Examples
 pub mod Laws
 pub mod Module
 pub mod SVector

@@ -1,5 +1,5 @@
 -- The module that vectors span, and the leads of its members.
-use Rattle.std.specs.Prelude.{◌≡◌, ℕ, List, [], ◌∷◌, length, All, Contains}
+use Rattle.std.specs.Prelude.{◌≡◌, ℕ, List, ◌∷◌, length, All, Contains}
 use Rattle.monomials.specs.Mono.{Monomial, Divides}
 use Rattle.polys.specs.declared.term.Term.{Term}
 use Rattle.polys.specs.Ideal.{combination}

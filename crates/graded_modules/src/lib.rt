@@ -1,6 +1,4 @@
 //! Graded modules over F_p[x, h]: when they are deep under a degree, and what makes a list of members a basis.
 #![tactic(auto)]
 
-
-/// Nothing yet.
-pub fn nothing() {}
+pub mod laws;
