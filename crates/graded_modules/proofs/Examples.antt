@@ -1,4 +1,4 @@
--- The ideal of two variables, by hand.
+-- The examples by hand.
 use Rattle.std.proofs.Common.{◌≡◌, inr, ℕ, ◌<◌, ◌≤◌, zero, suc, List, [], ◌∷◌, get_or, refl, ap, arith}
 use Rattle.std.specs.List.{All, AllPairs, Contains}
 use Rattle.std.proofs.lemmas.List.Elements.{All-nil, All-cons, All-weaker}
@@ -10,7 +10,7 @@ use Rattle.graded_modules.specs.Vector.{IsGradedVector, IsGenerator, degree_at, 
 use Rattle.graded_modules.specs.Module.{InModule}
 use Rattle.graded_modules.specs.SVector.{lead_lcm, IsSettled}
 use Rattle.graded_modules.specs.Bases.{IsBasisBelow}
-use Rattle.graded_modules.specs.Examples.{two_variables, TwoVariables}
+use Rattle.graded_modules.specs.Examples.{two_variables, TwoVariables, SVectorByHand, ShiftByHand}
 use Rattle.graded_modules.proofs.Members.{in_generator}
 use Rattle.graded_modules.proofs.Settled.{settled_law}
 use Rattle.graded_modules.proofs.Bases.{basis_law}
@@ -99,3 +99,18 @@ two_variables_law =
       not_deep = whole.0;
       leads = whole.1;
     }
+
+pub s_vector_law : SVectorByHand
+s_vector_law = refl
+
+pub shift_law : ShiftByHand
+shift_law = (
+  record {
+    vector = record {
+      canonical = ((omega arith), (omega arith), refl, ((omega arith), (omega arith), tt, tt));
+      graded = (record { seven = refl; first = (refl, (refl, (refl, (refl, (refl, tt))))); two = (omega arith) }, (record { seven = refl; first = (refl, (refl, (refl, (refl, (refl, tt))))); two = (omega arith) }, tt));
+    };
+    homogeneous = (1, (refl, (refl, tt)));
+  },
+  λ h. let a = h.homogeneous.1.0 in let b = h.homogeneous.1.1.0 in absurd (omega arith),
+)

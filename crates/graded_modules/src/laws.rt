@@ -1,5 +1,5 @@
 // Laws of graded modules and their bases: each function has an empty body, and its contract is the law.
-ghost use Rattle.graded_modules.specs.Examples.{TwoVariables};
+ghost use Rattle.graded_modules.specs.Examples.{TwoVariables, SVectorByHand, ShiftByHand};
 ghost use Rattle.graded_modules.specs.Laws.{ModuleLaws, SVectorLaws, SettledLaws, BasisLaws, ReducedByLeads, RemainderIsNormal};
 
 /// A module holds its generators, sums, differences and multiples.
@@ -35,7 +35,10 @@ pub fn remainders_are_normal_forms()
     ensures { RemainderIsNormal }
 {}
 
-/// An example by hand: the ideal of x and y is deep under the degree 1, and not under 2.
-pub fn two_variables_are_deep_below_their_product()
-    ensures { TwoVariables }
+/// Examples by hand: an S-vector of two polynomials; a vector that is homogeneous for one shift alone; and the ideal of x
+/// and y, which is deep under the degree 1 and not under 2.
+pub fn examples_by_hand()
+    ensures s_vector { SVectorByHand }
+    ensures shift { ShiftByHand }
+    ensures deep { TwoVariables }
 {}

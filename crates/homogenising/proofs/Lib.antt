@@ -1,10 +1,10 @@
-mod Places
-mod Order
-mod Images
-mod Monomials
-mod Lifted
-mod Stays
-mod Descent
-mod Apart
-mod Spanning
-mod Found
+pub mod Places
+pub mod Order
+pub mod Images
+pub mod Monomials
+pub mod Lifted
+pub mod Stays
+pub mod Descent
+pub mod Apart
+pub mod Spanning
+pub mod Found
