@@ -1,15 +1,16 @@
 -- Members with all leads span an ideal, and are its reduced basis where none is superfluous.
-use Rattle.std.proofs.Common.{◌≡◌, ◌↔◌, ℕ, ◌+◌, ◌*◌, ◌-◌, ◌%◌, ◌<◌, zero, suc, List, [], ◌∷◌, ◌++◌, length, map, refl, sym, ap, ◌∙◌, subst, arith}
+use Rattle.std.proofs.Common.{◌≤◌, ◌≡◌, ◌↔◌, ℕ, ◌+◌, ◌*◌, ◌-◌, ◌%◌, ◌<◌, zero, suc, List, [], ◌∷◌, ◌++◌, length, map, refl, sym, ap, ◌∙◌, subst, arith}
 use Rattle.std.specs.declared.cmp.Ordering.TheVariants.{Less, Greater}
 use Rattle.std.specs.List.{All, AllPairs, Contains}
 use Rattle.std.proofs.lemmas.List.Elements.{All-nil, All-cons, All-head, All-tail, All-contains}
 use native.Mathlib.Nat.{mul-add-mod_self_left, mod-eq_of_lt}
-use Rattle.monomials.specs.Mono.{Monomial, pointwise, times, Divides, cmp_dp}
+use Rattle.monomials.specs.Mono.{Monomial, pointwise, times, Divides, cmp_dp, total_degree}
+use Rattle.monomials.proofs.Exponents.{total_degree-plus}
 use Rattle.monomials.proofs.Factors.{divides_law}
 use Rattle.monomials.proofs.Order.{times_comm}
 use Rattle.prime_field.specs.Primes.{IsPrime}
 use Rattle.polys.specs.declared.term.Term.{Term}
-use Rattle.polys.specs.Terms.{EachMono, IsAffine, IsCanonical, IsPoly, IsMonic, OnlyFirst, add, sub, mul, multiple, scaled}
+use Rattle.polys.specs.Terms.{EachMono, IsAffine, IsCanonical, IsPoly, IsMonic, OnlyFirst, add, sub, mul, multiple, scaled, degree_of}
 use Rattle.polys.specs.Ideal.{InIdeal, combination}
 use Rattle.polys.specs.Reduced.{leads, lower_monos, IsLead, IsMinimalLead, IsReducedBasis}
 use Rattle.polys.proofs.Affine.{poly_sub, poly_mul, sevens_of}
@@ -103,15 +104,18 @@ module _ (p n : ℕ) (prime : IsPrime p) where
 
   -- the monic b, times what its lead lacks of t, cancels t
   pub cancel : (t : Term) (f b : List Term) → IsPoly p n (t ∷ f) → IsPoly p n b → IsMonic b → Divides (lead_mono b) t.mono
-      → (a : List Term) × IsPoly p n a × EachMono (Low t.mono) (sub p (t ∷ f) (mul p a b))
+      → (a : List Term) × IsPoly p n a × EachMono (Low t.mono) (sub p (t ∷ f) (mul p a b)) × (degree_of a ≤ total_degree t.mono.exponents)
   cancel t f [] hf hb m d = absurd m
-  cancel t f (u ∷ g) hf hb m d = (w ∷ [], poly, lead_drops t f (mul p (w ∷ []) (u ∷ g)) hf.canonical (poly_mul p n (w ∷ []) (u ∷ g) pos poly hb).canonical product.0 same)
+  cancel t f (u ∷ g) hf hb m d = (w ∷ [], poly, lead_drops t f (mul p (w ∷ []) (u ∷ g)) hf.canonical (poly_mul p n (w ∷ []) (u ∷ g) pos poly hb).canonical product.0 same, low)
     where
       c : (c : Monomial) × IsAffine n c × (t.mono ≡ times u.mono c)
       c = affine_factor n u.mono t.mono hb.affine.0 hf.affine.0 d
 
       w : Term
       w = record { coeff = t.coeff; mono = c.0 }
+
+      low : degree_of (w ∷ []) ≤ total_degree t.mono.exponents
+      low = let e = ap (λ (m : Monomial). total_degree m.exponents) c.2 ∙ total_degree-plus u.mono.exponents c.0.exponents in omega arith
 
       poly : IsPoly p n (w ∷ [])
       poly = record { canonical = (hf.canonical.0, hf.canonical.1, tt, tt); affine = (c.1, tt) }
@@ -181,7 +185,7 @@ module _ (p n : ℕ) (prime : IsPrime p) where
         hb : IsPoly p n d.0
         hb = All-contains (IsPoly p n) ds d.0 hd d.1
 
-        cn : (a : List Term) × IsPoly p n a × EachMono (Low t.mono) (sub p (t ∷ f) (mul p a d.0))
+        cn : (a : List Term) × IsPoly p n a × EachMono (Low t.mono) (sub p (t ∷ f) (mul p a d.0)) × (degree_of a ≤ total_degree t.mono.exponents)
         cn = cancel t f d.0 hf hb (All-contains IsMonic ds d.0 mon d.1) d.2
 
         g : List Term

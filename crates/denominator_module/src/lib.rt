@@ -1,0 +1,4 @@
+//! The graded module of a denominator over an ideal: what its bases say of sums, colon ideals and lifts.
+#![tactic(auto)]
+
+pub mod laws;
