@@ -8,3 +8,4 @@ pub mod Descent
 pub mod Apart
 pub mod Spanning
 pub mod Found
+pub mod Terms

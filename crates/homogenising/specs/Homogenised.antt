@@ -1,5 +1,5 @@
 -- Homogenising by a last variable, and setting it to 1 (Greuel and Pfister, section on homogenisation).
-use Rattle.std.specs.Prelude.{ℕ, ◌-◌, List, map, slice_set}
+use Rattle.std.specs.Prelude.{ℕ, ◌≡◌, ◌-◌, List, length, map, slice_index, slice_set}
 use Rattle.monomials.specs.Mono.{Monomial, total_degree}
 use Rattle.polys.specs.declared.term.Term.{Term}
 use Rattle.polys.specs.Terms.{degree_of, normal}
@@ -8,13 +8,26 @@ use Rattle.polys.specs.Terms.{degree_of, normal}
 abbrev pub with_hom : ℕ → Monomial → Monomial
 with_hom e m = record { exponents = slice_set m.exponents 6 e; component = m.component }
 
--- each term is lifted to the degree of f by a power of the homogenising variable
+-- a monomial of seven exponents without the homogenising variable
+pub record IsUnlifted (m : Monomial) : Type 0 where
+  pub seven : length m.exponents ≡ 7
+  pub none : slice_index m.exponents 6 ≡ 0
+
+-- each term is lifted to the degree e by a power of the homogenising variable
+abbrev pub homogenised_to : ℕ → List Term → List Term
+homogenised_to e f = map (λ t. record { coeff = t.coeff; mono = with_hom (e - total_degree t.mono.exponents) t.mono }) f
+
+-- so that each term has the degree of f
 abbrev pub homogenised : List Term → List Term
-homogenised f = map (λ t. record { coeff = t.coeff; mono = with_hom (degree_of f - total_degree t.mono.exponents) t.mono }) f
+homogenised f = homogenised_to (degree_of f) f
+
+-- the terms with the homogenising exponent 0
+abbrev pub without_hom : List Term → List Term
+without_hom f = map (λ t. record { coeff = t.coeff; mono = with_hom 0 t.mono }) f
 
 -- the homogenising variable becomes 1
 abbrev pub dehomogenised : ℕ → List Term → List Term
-dehomogenised p f = normal p (map (λ t. record { coeff = t.coeff; mono = with_hom 0 t.mono }) f)
+dehomogenised p f = normal p (without_hom f)
 
 -- the same of each polynomial of a list
 abbrev pub all_homogenised : List (List Term) → List (List Term)

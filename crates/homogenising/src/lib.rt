@@ -2,3 +2,6 @@
 #![tactic(auto)]
 
 pub mod laws;
+mod lifting;
+
+pub use lifting::{dehomogenised, homogenised_to};
