@@ -28,7 +28,7 @@ use Rattle.homogenising.proofs.Stays.{module_cons, lower_polys, stays_law}
 use Rattle.homogenising.proofs.Spanning.{generated, same_ideal}
 use Rattle.denominator_module.specs.Module.{module_of, first, second, sum_members}
 use Rattle.denominator_module.specs.Laws.{AreGiven, IsModuleBasis, Generates}
-use Rattle.denominator_module.proofs.Parts.{every_first, plain_first, canonical_first}
+use Rattle.denominator_module.proofs.Components.{every_first, plain_first, canonical_first}
 use Rattle.denominator_module.proofs.Pairs.{pos, two, plain_degree, homogeneous_d, homogeneous_gs, pairs, has_first}
 
 -- the first parts, still homogeneous

@@ -1,4 +1,4 @@
-pub mod Parts
+pub mod Components
 pub mod Pairs
 pub mod Firsts
 pub mod Seconds
@@ -6,3 +6,4 @@ pub mod Colons
 pub mod Scaled
 pub mod Lifts
 pub mod Stated
+pub mod Taken

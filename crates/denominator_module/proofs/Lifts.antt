@@ -24,7 +24,7 @@ use Rattle.polys.proofs.Weights.{is_canonical, normal_canon}
 use Rattle.graded_modules.specs.Vector.{IsGraded, IsGradedVector, HasDegree, degree_at, lead_mono}
 use Rattle.graded_modules.specs.Module.{InModule, IsLead, IsLeadMultiple}
 use Rattle.graded_modules.proofs.Members as members
-use Rattle.homogenising.specs.Homogenised.{homogenised, dehomogenised, all_homogenised, all_dehomogenised}
+use Rattle.homogenising.specs.Homogenised.{homogenised, dehomogenised, all_homogenised, all_dehomogenised, homogenised_to}
 use Rattle.homogenising.specs.Laws.{IsHomogeneousPoly}
 use Rattle.homogenising.proofs.Lifted.{homogenised_law, Fits, fits, lifted, lowered_lifted}
 use Rattle.homogenising.proofs.Order.{lift}
@@ -33,9 +33,9 @@ use Rattle.homogenising.proofs.Monomials.{lower, degree_lower}
 use Rattle.homogenising.proofs.Stays.{factor_of, lower_factor, lower_member, lower_product, lift_factor, lift_product}
 use Rattle.homogenising.proofs.Descent.{Step, descent}
 use Rattle.homogenising.proofs.Spanning.{Low, cancel, sub_add, add_sub, taken}
-use Rattle.denominator_module.specs.Module.{module_of, first, second, homogenised_to, quotient_of}
+use Rattle.denominator_module.specs.Module.{module_of, first, second, quotient_of}
 use Rattle.denominator_module.specs.Laws.{AreGiven, IsModuleBasis, LiftLaws}
-use Rattle.denominator_module.proofs.Parts.{IsLow, lowered, every_second, first_plain, second_plain, canonical_first}
+use Rattle.denominator_module.proofs.Components.{IsLow, lowered, every_second, first_plain, second_plain, canonical_first}
 use Rattle.denominator_module.proofs.Pairs.{pos, plain_degree, homogeneous_d, homogeneous_gs, IsPair, pairs, has_first}
 use Rattle.denominator_module.proofs.Firsts.{firsts_of, all_firsts, lead_first, lower_all, first_inside, homogeneous_firsts, firsts_inside, begins_first, member_vector, all_homogeneous, sum_inside, sum_leads, sum_monic, firsts_monic}
 use Rattle.denominator_module.proofs.Seconds.{one_of}

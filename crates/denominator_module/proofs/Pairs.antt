@@ -26,7 +26,7 @@ use Rattle.homogenising.proofs.Images.{image, canonical_image}
 use Rattle.homogenising.proofs.Spanning.{add_sub}
 use Rattle.denominator_module.specs.Module.{with_unit, module_of, first, second}
 use Rattle.denominator_module.specs.Laws.{AreGiven}
-use Rattle.denominator_module.proofs.Parts.{IsLow, cmp_lowered, first-append, first-add, first-mul, first_plain, second-append, second-add, second-mul, second_plain}
+use Rattle.denominator_module.proofs.Components.{IsLow, cmp_lowered, first-append, first-add, first-mul, first_plain, second-append, second-add, second-mul, second_plain}
 
 -- the second unit vector
 abbrev pub second_mono : Monomial

@@ -9,7 +9,7 @@ use Rattle.polys.proofs.Units.{weigh-scaled}
 use Rattle.polys.proofs.Weights.{weigh, weigh-normal, normal_ext}
 use Rattle.homogenising.proofs.Images.{image, sent, sent-normal}
 use Rattle.denominator_module.specs.Module.{first, second}
-use Rattle.denominator_module.proofs.Parts.{IsLow, first-normal, first-add, second-normal, second-add}
+use Rattle.denominator_module.proofs.Components.{IsLow, first-normal, first-add, second-normal, second-add}
 
 first-scaled : (c : ℕ) (f : List Term) → first (scaled c f) ≡ scaled c (first f)
 first-scaled c [] = refl

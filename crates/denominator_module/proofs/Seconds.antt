@@ -16,7 +16,7 @@ use Rattle.graded_modules.specs.Vector.{IsGraded, IsGenerator, degree_at, lead_m
 use Rattle.homogenising.specs.Homogenised.{dehomogenised, all_dehomogenised}
 use Rattle.homogenising.specs.Laws.{IsHomogeneousPoly}
 use Rattle.denominator_module.specs.Module.{first, second, colon_members}
-use Rattle.denominator_module.proofs.Parts.{lowered, IsLow, every_second, canonical_second}
+use Rattle.denominator_module.proofs.Components.{lowered, IsLow, every_second, canonical_second}
 use Rattle.denominator_module.proofs.Firsts.{none_first, stays_second}
 
 -- the second parts, still homogeneous

@@ -7,8 +7,9 @@ use Rattle.polys.specs.Ideal.{InIdeal, Regular}
 use Rattle.polys.specs.Reduced.{IsReducedBasis}
 use Rattle.graded_modules.specs.Vector.{IsGenerator, IsGradedVector, HasDegree, degree_at, lead_mono}
 use Rattle.graded_modules.specs.Bases.{HasAllLeads, SpanOneModule, IsNormalForm}
+use Rattle.homogenising.specs.Homogenised.{homogenised_to}
 use Rattle.homogenising.specs.Laws.{HasAffineLeads}
-use Rattle.denominator_module.specs.Module.{module_of, first, sum_members, colon_members, homogenised_to, quotient_of, InColon, IsColonBasis}
+use Rattle.denominator_module.specs.Module.{module_of, first, sum_members, colon_members, quotient_of, InColon, IsColonBasis}
 
 -- d and the generators are polynomials in 1 to 6 variables modulo a prime
 pub record AreGiven (p n : ℕ) (d : List Term) (gs : List (List Term)) : Type 0 where

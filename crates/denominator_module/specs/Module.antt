@@ -1,14 +1,13 @@
 -- The graded module of a denominator: the pairs (a, b) in which a - b d is in the ideal (Greuel and Pfister, sections on
 -- colon ideals and on syzygies).
-use Rattle.std.specs.Prelude.{ℕ, ◌-◌, ◌==◌, if◌then◌else◌, List, [], ◌∷◌, ◌++◌, map, replicate}
-use Rattle.monomials.specs.Mono.{total_degree}
+use Rattle.std.specs.Prelude.{ℕ, ◌-◌, ◌==◌, if◌then◌else◌, List, [], ◌∷◌, ◌++◌, replicate}
 use Rattle.polys.specs.declared.term.Term.{Term}
 use Rattle.polys.specs.Terms.{degree_of, mul, multiple}
 use Rattle.polys.specs.Ideal.{InIdeal}
 use Rattle.polys.specs.Reduced.{IsReducedBasis}
 use Rattle.graded_modules.specs.Vector.{lead_mono}
 use Rattle.graded_modules.specs.Deep.{IsDeep}
-use Rattle.homogenising.specs.Homogenised.{with_hom, homogenised, dehomogenised, all_homogenised}
+use Rattle.homogenising.specs.Homogenised.{homogenised, dehomogenised, all_homogenised}
 
 -- the vector (d, 1), where the second unit vector has the degree of d
 abbrev pub with_unit : List Term → List Term
@@ -44,10 +43,6 @@ colon_members p [] = []
 colon_members p (b ∷ bs) = if (lead_mono b).component == 0 then colon_members p bs else (dehomogenised p (second b) ∷ colon_members p bs)
 
 -- ---- lifts
-
--- f homogenised to the degree K, which is no smaller than its own
-abbrev pub homogenised_to : ℕ → List Term → List Term
-homogenised_to K f = map (λ t. record { coeff = t.coeff; mono = with_hom (K - total_degree t.mono.exponents) t.mono }) f
 
 -- the polynomial u that a pair with the second part -u stands for
 abbrev pub quotient_of : ℕ → List Term → List Term

@@ -2,3 +2,6 @@
 #![tactic(auto)]
 
 pub mod laws;
+mod parts;
+
+pub use parts::{first_part, second_part};
