@@ -1,0 +1,40 @@
+-- Laws of standard monomials (Greuel and Pfister, section on standard bases; the theorem is Macaulay's).
+use Rattle.std.specs.Prelude.{◌≡◌, ℕ, ◌<◌, ◌≤◌, List, length, All}
+use Rattle.monomials.specs.Mono.{Monomial}
+use Rattle.prime_field.specs.Primes.{IsPrime}
+use Rattle.polys.specs.declared.term.Term.{Term}
+use Rattle.polys.specs.Terms.{IsPoly}
+use Rattle.polys.specs.Ideal.{HasDim, HasInfiniteDim}
+use Rattle.standard_monomials.specs.Standard.{IsStandardBasis, AreSomeStandard, AreStandard, HasPurePower, HasNoPurePower, IsRemainder}
+
+-- each polynomial has a remainder, and only one
+abbrev pub RemaindersAreUnique : Type 0
+RemaindersAreUnique =
+    (p n : ℕ) (gs ds : List (List Term)) (f : List Term) → IsPrime p → All (IsPoly p n) gs → IsStandardBasis p n gs ds → IsPoly p n f
+    → (r : List Term) × IsRemainder p n gs ds f r × ((s : List Term) → IsRemainder p n gs ds f s → s ≡ r)
+
+-- the standard monomials are as many as the dimension, and some of them are at most as many
+pub record StandardMonomialsCount : Type 0 where
+  pub all : (p n : ℕ) (gs ds : List (List Term)) (ms : List Monomial) → IsPrime p → All (IsPoly p n) gs → IsStandardBasis p n gs ds
+      → AreStandard n ds ms → HasDim p n gs (length ms)
+  pub some : (p n : ℕ) (gs ds : List (List Term)) (ms : List Monomial) (N : ℕ) → IsPrime p → All (IsPoly p n) gs → IsStandardBasis p n gs ds
+      → AreSomeStandard n ds ms → HasDim p n gs N → length ms ≤ N
+
+-- a variable none of whose powers is a multiple of a lead
+abbrev pub MissingPowersMakeItInfinite : Type 0
+MissingPowersMakeItInfinite =
+    (p n : ℕ) (gs ds : List (List Term)) (v : ℕ) → IsPrime p → n ≤ 6 → All (IsPoly p n) gs → IsStandardBasis p n gs ds → v < n → HasNoPurePower ds v
+    → HasInfiniteDim p n gs
+
+-- each variable has a power that is a multiple of a lead: a list has all standard monomials, and where more than the limit are
+-- known the dimension is above the limit
+pub record PurePowersMakeItFinite : Type 0 where
+  pub list : (p n : ℕ) (gs ds : List (List Term)) → IsPrime p → All (IsPoly p n) gs → IsStandardBasis p n gs ds
+      → ((v : ℕ) → v < n → HasPurePower ds v) → (ms : List Monomial) × AreStandard n ds ms
+  pub above : (p n : ℕ) (gs ds : List (List Term)) (ms : List Monomial) (limit : ℕ) → IsPrime p → All (IsPoly p n) gs → IsStandardBasis p n gs ds
+      → ((v : ℕ) → v < n → HasPurePower ds v) → AreSomeStandard n ds ms → limit < length ms → (N : ℕ) × (limit < N) × HasDim p n gs N
+
+-- two dimensions of one ideal are equal, and none is finite and infinite
+pub record DimensionsAreUnique : Type 0 where
+  pub one : (p n : ℕ) (gs : List (List Term)) (M N : ℕ) → HasDim p n gs M → HasDim p n gs N → M ≡ N
+  pub not_both : (p n : ℕ) (gs : List (List Term)) (N : ℕ) → HasDim p n gs N → HasInfiniteDim p n gs → ⊥
