@@ -4,7 +4,7 @@ use native.Mathlib.Nat.{zero-mod, mod-mod}
 use Rattle.std.specs.Ordering.{is_eq}
 use Rattle.std.specs.declared.cmp.Ordering.{Ordering}
 use Rattle.std.specs.declared.cmp.Ordering.TheVariants.{Less, Equal, Greater}
-use Rattle.std.specs.List.{AllPairs, Contains}
+use Rattle.std.specs.List.{Contains}
 use Rattle.std.proofs.lemmas.List.{length-map}
 use Rattle.std.proofs.lemmas.List.Elements.{All-nil, All-cons, All-head, All-tail, All-map, All-weaker, All-contains, All-contains_itself}
 use Rattle.prime_field.specs.Primes.{IsPrime}
@@ -15,7 +15,7 @@ use Rattle.comm_ring.proofs.Exchange as Exchange
 use Rattle.monomials.specs.Mono.{Monomial, cmp_dp}
 use Rattle.monomials.proofs.Order.{self_dp, same_dp}
 use Rattle.polys.specs.declared.term.Term.{Term}
-use Rattle.polys.specs.Terms.{EachMono, IsAffine, IsPoly, coefficient, keep, add, sub, mul, multiple}
+use Rattle.polys.specs.Terms.{EachMono, IsPoly, coefficient, keep, add, sub, mul, multiple}
 use Rattle.polys.specs.Ideal.{InIdeal, number_combination, IsSpanned, Spans, HasDim}
 use Rattle.polys.specs.Ring.{Member}
 use Rattle.polys.proofs.Affine.{mul_constant, sevens_of}

@@ -1,10 +1,10 @@
 -- A variable without a pure power has infinitely many standard powers.
-use Rattle.std.proofs.Common.{◌≡◌, ◌≢◌, ℕ, ◌<◌, ◌≤◌, zero, suc, List, [], ◌∷◌, length, All, refl, ap, arith}
-use Rattle.std.proofs.lemmas.List.Elements.{All-nil, All-cons, All-weaker}
+use Rattle.std.proofs.Common.{◌≡◌, ◌≢◌, ℕ, ◌<◌, zero, suc, List, [], ◌∷◌, length, All, refl, ap, arith}
+use Rattle.std.proofs.lemmas.List.Elements.{All-nil, All-cons}
 use Rattle.std.proofs.lemmas.List.Kept.{AllPairs-cons}
 use Rattle.monomials.specs.Mono.{Monomial}
 use Rattle.polys.specs.declared.term.Term.{Term}
-use Rattle.standard_monomials.specs.Standard.{IsStandard, AreDistinct, AreSomeStandard, variable_power, HasNoPurePower}
+use Rattle.standard_monomials.specs.Standard.{IsStandard, AreDistinct, variable_power, HasNoPurePower}
 use Rattle.standard_monomials.specs.Laws.{MissingPowersMakeItInfinite}
 use Rattle.standard_monomials.proofs.Counting.{few}
 use Rattle.standard_monomials.proofs.Powers.{affine_power, power_differ}

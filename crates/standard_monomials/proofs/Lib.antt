@@ -5,3 +5,6 @@ pub mod Counting
 pub mod Powers
 pub mod Infinite
 pub mod Finite
+pub mod Bases
+pub mod Search
+pub mod Examples

@@ -4,7 +4,7 @@ use Rattle.monomials.specs.Mono.{Monomial, Divides}
 use Rattle.polys.specs.Terms.{OnlyFirst, IsAffine}
 use Rattle.standard_monomials.specs.Standard.{variable_power}
 
-length_power : (k v e : ℕ) → length {A = ℕ} (set (replicate k 0) v e) ≡ k
+pub length_power : (k v e : ℕ) → length {A = ℕ} (set (replicate k 0) v e) ≡ k
 length_power zero v e = refl
 length_power (suc k) zero e = ap suc (length_zeros k)
   where
@@ -27,7 +27,7 @@ only_power (suc n) (suc k) (suc v) e h = only_power n k v e (omega arith)
 pub affine_power : (n v e : ℕ) → v < n → IsAffine n (variable_power v e)
 affine_power n v e h = record { seven = length_power 7 v e; first = only_power n 7 v e h; plain = refl }
 
-at_place : (k v e : ℕ) → v < k → get_or (set (replicate k 0) v e) v 0 ≡ e
+pub at_place : (k v e : ℕ) → v < k → get_or (set (replicate k 0) v e) v 0 ≡ e
 at_place zero v e h = absurd (omega arith)
 at_place (suc k) zero e h = refl
 at_place (suc k) (suc v) e h = at_place k v e (omega arith)
@@ -43,6 +43,13 @@ zeros_under zero b i = omega arith
 zeros_under (suc k) b zero = omega arith
 zeros_under (suc k) [] (suc i) = zeros_under k [] i
 zeros_under (suc k) (x ∷ b) (suc i) = zeros_under k b i
+
+pub off_place : (k v e i : ℕ) → i ≢ v → get_or (set (replicate k 0) v e) i 0 ≤ 0
+off_place zero v e i d = omega arith
+off_place (suc k) zero e zero d = absurd (d refl)
+off_place (suc k) zero e (suc i) d = zeros_under k [] i
+off_place (suc k) (suc v) e zero d = omega arith
+off_place (suc k) (suc v) e (suc i) d = off_place k v e i (λ q. d (ap suc q))
 
 power_under : (k v e : ℕ) (b : List ℕ) → e ≤ get_or b v 0 → (i : ℕ) → get_or (set (replicate k 0) v e) i 0 ≤ get_or b i 0
 power_under zero v e b h i = omega arith

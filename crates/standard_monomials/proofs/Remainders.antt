@@ -1,15 +1,15 @@
 -- Each polynomial has one remainder: a lead that is a multiple is cancelled, one that is standard is set aside.
-use Rattle.std.proofs.Common.{◌≡◌, ◌⊎◌, inl, inr, ℕ, ◌-◌, ◌<◌, List, [], ◌∷◌, length, refl, sym, ap, ◌∙◌, subst, arith}
+use Rattle.std.proofs.Common.{◌≡◌, ◌⊎◌, inl, inr, ℕ, ◌-◌, ◌<◌, List, [], ◌∷◌, length, refl, sym, ap, ◌∙◌, subst}
 use Rattle.std.specs.declared.cmp.Ordering.TheVariants.{Less}
 use Rattle.std.specs.List.{All, Contains}
 use Rattle.std.proofs.lemmas.List.Elements.{All-contains, All-weaker}
 use Rattle.monomials.specs.Mono.{Monomial, Divides, cmp_dp}
 use Rattle.prime_field.specs.Primes.{IsPrime}
 use Rattle.polys.specs.declared.term.Term.{Term}
-use Rattle.polys.specs.Terms.{EachMono, IsAffine, IsCanonical, IsPoly, IsMonic, normal, add, sub, mul, multiple}
+use Rattle.polys.specs.Terms.{EachMono, IsPoly, IsMonic, normal, add, sub, mul, multiple}
 use Rattle.polys.specs.Ideal.{InIdeal}
 use Rattle.polys.proofs.Affine.{constant, mul_constant, poly_none, poly_add, poly_sub, poly_mul, sevens_of}
-use Rattle.polys.proofs.Each.{every_add, every_more, every_multiple}
+use Rattle.polys.proofs.Each.{every_add, every_multiple}
 use Rattle.polys.proofs.Ideals.{in_none, in_add, in_sub, in_mul, in_poly}
 use Rattle.polys.proofs.Leads.{Seven}
 use Rattle.polys.proofs.Sums.{add_assoc, add_comm, mul_normal_right}

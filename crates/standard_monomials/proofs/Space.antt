@@ -1,7 +1,6 @@
 -- The polynomials modulo an ideal as a module over the residues.
 use Rattle.std.proofs.Common.{◌≡◌, ◌⊎◌, inl, inr, ℕ, suc, ◌+◌, ◌*◌, ◌%◌, ◌<◌, List, [], ◌∷◌, length, All, refl, sym, ap, ap₂, ◌∙◌, subst, mod-eq_of_lt}
 use Rattle.std.specs.List.{Contains}
-use Rattle.std.proofs.lemmas.List.{length-map}
 use Rattle.std.proofs.lemmas.List.Elements.{All-head, All-tail}
 use Rattle.prime_field.specs.Primes.{IsPrime}
 use Rattle.comm_ring.specs.Ring.{CommRing, IsRingMap}

@@ -1,11 +1,22 @@
 -- Laws of standard monomials (Greuel and Pfister, section on standard bases; the theorem is Macaulay's).
-use Rattle.std.specs.Prelude.{◌≡◌, ℕ, ◌<◌, ◌≤◌, List, length, All}
-use Rattle.monomials.specs.Mono.{Monomial}
+use Rattle.std.specs.Prelude.{◌≡◌, ◌↔◌, ℕ, ◌<◌, ◌≤◌, List, length, map, All, Contains}
+use Rattle.monomials.specs.Mono.{Monomial, Divides, times, unit, variable}
 use Rattle.prime_field.specs.Primes.{IsPrime}
 use Rattle.polys.specs.declared.term.Term.{Term}
-use Rattle.polys.specs.Terms.{IsPoly}
+use Rattle.polys.specs.Terms.{IsAffine, IsPoly}
 use Rattle.polys.specs.Ideal.{HasDim, HasInfiniteDim}
-use Rattle.standard_monomials.specs.Standard.{IsStandardBasis, AreSomeStandard, AreStandard, HasPurePower, HasNoPurePower, IsRemainder}
+use Rattle.polys.specs.Reduced.{Reduced}
+use Rattle.graded_modules.specs.Vector.{lead_mono}
+use Rattle.standard_monomials.specs.Standard.{IsStandardBasis, IsStandard, AreSomeStandard, AreStandard, polynomial_of, HasPurePower, HasNoPurePower, IsPowerOf, IsRemainder}
+
+-- a reduced basis is a standard basis of its ideal
+abbrev pub ReducedIsStandard : Type 0
+ReducedIsStandard = (p n : ℕ) (ds : List (List Term)) → IsPrime p → Reduced p n ds → IsStandardBasis p n ds ds
+
+-- and so are monomials
+abbrev pub MonomialsAreStandard : Type 0
+MonomialsAreStandard =
+    (p n : ℕ) (ms : List Monomial) → IsPrime p → All (IsAffine n) ms → IsStandardBasis p n (map polynomial_of ms) (map polynomial_of ms)
 
 -- each polynomial has a remainder, and only one
 abbrev pub RemaindersAreUnique : Type 0
@@ -33,6 +44,21 @@ pub record PurePowersMakeItFinite : Type 0 where
       → ((v : ℕ) → v < n → HasPurePower ds v) → (ms : List Monomial) × AreStandard n ds ms
   pub above : (p n : ℕ) (gs ds : List (List Term)) (ms : List Monomial) (limit : ℕ) → IsPrime p → All (IsPoly p n) gs → IsStandardBasis p n gs ds
       → ((v : ℕ) → v < n → HasPurePower ds v) → AreSomeStandard n ds ms → limit < length ms → (N : ℕ) × (limit < N) × HasDim p n gs N
+
+-- some power of a variable is a multiple of a lead exactly where some lead is a power of the variable
+abbrev pub PurePowersAreLeads : Type 0
+PurePowersAreLeads =
+    (p n : ℕ) (ds : List (List Term)) (v : ℕ) → n ≤ 6 → All (IsPoly p n) ds → v < n
+    → HasPurePower ds v ↔ ((b : List Term) × Contains ds b × IsPowerOf v (lead_mono b))
+
+-- how all standard monomials are found
+pub record StandardMonomialsAreFound : Type 0 where
+  -- divisors of standard monomials are standard
+  pub divisor : (n : ℕ) (ds : List (List Term)) (w m : Monomial) → IsAffine n w → Divides w m → IsStandard n ds m → IsStandard n ds w
+  -- a list has all of them if it has 1 and, with each member, the multiples by the variables, where these are standard
+  pub search : (n : ℕ) (ds : List (List Term)) (ms : List Monomial) → (IsStandard n ds unit → Contains ms unit)
+      → ((m : Monomial) (v : ℕ) → Contains ms m → v < n → IsStandard n ds (times m (variable v)) → Contains ms (times m (variable v)))
+      → (m : Monomial) → IsStandard n ds m → Contains ms m
 
 -- two dimensions of one ideal are equal, and none is finite and infinite
 pub record DimensionsAreUnique : Type 0 where

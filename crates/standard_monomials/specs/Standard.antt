@@ -1,5 +1,5 @@
 -- Standard bases and standard monomials (Greuel and Pfister, section on standard bases).
-use Rattle.std.specs.Prelude.{◌≡◌, ◌≢◌, ◌↔◌, ℕ, ◌<◌, List, [], ◌∷◌, replicate, slice_set, All, AllPairs, Contains}
+use Rattle.std.specs.Prelude.{◌≡◌, ◌≢◌, ◌↔◌, ℕ, List, [], ◌∷◌, replicate, slice_index, slice_set, All, AllPairs, Contains}
 use Rattle.monomials.specs.Mono.{Monomial}
 use Rattle.polys.specs.declared.term.Term.{Term}
 use Rattle.polys.specs.Terms.{EachMono, IsAffine, IsPoly, IsMonic, sub}
@@ -47,6 +47,10 @@ HasPurePower ds v = (e : ℕ) × IsLeadMultiple ds (variable_power v e)
 -- no power of the variable is a multiple of a lead
 abbrev pub HasNoPurePower : List (List Term) → ℕ → Type 0
 HasNoPurePower ds v = (e : ℕ) → IsLeadMultiple ds (variable_power v e) → ⊥
+
+-- a power of the variable with this number, perhaps 1: no other exponent is above 0
+abbrev pub IsPowerOf : ℕ → Monomial → Type 0
+IsPowerOf v m = (i : ℕ) → i ≢ v → slice_index m.exponents i ≡ 0
 
 -- r differs from f by a member of the ideal, and its monomials are standard
 pub record IsRemainder (p n : ℕ) (gs ds : List (List Term)) (f r : List Term) : Type 0 where
