@@ -37,15 +37,15 @@ MissingPowersMakeItInfinite =
     (p n : ℕ) (gs ds : List (List Term)) (v : ℕ) → IsPrime p → n ≤ 6 → All (IsPoly p n) gs → IsStandardBasis p n gs ds → v < n → HasNoPurePower ds v
     → HasInfiniteDim p n gs
 
--- each variable has a power that is a multiple of a lead: a list has all standard monomials, and where more than the limit are
--- known the dimension is above the limit
+-- each variable has a power that is a multiple of a lead: some list has all standard monomials, and where more than the limit
+-- are known the dimension is above the limit
 pub record PurePowersMakeItFinite : Type 0 where
   pub list : (p n : ℕ) (gs ds : List (List Term)) → IsPrime p → All (IsPoly p n) gs → IsStandardBasis p n gs ds
       → ((v : ℕ) → v < n → HasPurePower ds v) → (ms : List Monomial) × AreStandard n ds ms
   pub above : (p n : ℕ) (gs ds : List (List Term)) (ms : List Monomial) (limit : ℕ) → IsPrime p → All (IsPoly p n) gs → IsStandardBasis p n gs ds
       → ((v : ℕ) → v < n → HasPurePower ds v) → AreSomeStandard n ds ms → limit < length ms → (N : ℕ) × (limit < N) × HasDim p n gs N
 
--- some power of a variable is a multiple of a lead exactly where some lead is a power of the variable
+-- a variable has a power that is a multiple of a lead exactly where some lead is a power of the variable
 abbrev pub PurePowersAreLeads : Type 0
 PurePowersAreLeads =
     (p n : ℕ) (ds : List (List Term)) (v : ℕ) → n ≤ 6 → All (IsPoly p n) ds → v < n

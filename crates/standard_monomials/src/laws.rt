@@ -22,17 +22,18 @@ pub fn standard_monomials_count_the_dimension()
     ensures { StandardMonomialsCount }
 {}
 
-/// Where no power of some variable is a multiple of a lead, the dimension is infinite.
+/// Where a variable has no power that is a multiple of a lead, the dimension is infinite.
 pub fn missing_powers_make_it_infinite()
     ensures { MissingPowersMakeItInfinite }
 {}
 
-/// Where some power of each variable is a multiple of a lead, the standard monomials are finitely many.
+/// Where each variable has a power that is a multiple of a lead, the standard monomials are finitely many, and more than a
+/// limit of them show a dimension above it.
 pub fn pure_powers_make_it_finite()
     ensures { PurePowersMakeItFinite }
 {}
 
-/// Some power of a variable is a multiple of a lead exactly where some lead is a power of the variable.
+/// A variable has a power that is a multiple of a lead exactly where some lead is a power of the variable.
 pub fn pure_powers_are_leads()
     ensures { PurePowersAreLeads }
 {}
@@ -42,7 +43,7 @@ pub fn standard_monomials_are_found()
     ensures { StandardMonomialsAreFound }
 {}
 
-/// An ideal has one dimension, finite or infinite.
+/// No ideal has two dimensions, nor one that is finite and infinite.
 pub fn dimensions_are_unique()
     ensures { DimensionsAreUnique }
 {}
