@@ -67,7 +67,7 @@ divides_or_not a b e = go (under_or_not a.exponents b.exponents)
     go (inr n) = inr (λ d. n d.none_greater)
 
 -- a member whose lead divides m, or none
-search_lead : (ds : List (List Term)) (m : Monomial) → ((b : List Term) → Contains ds b → (lead_mono b).component ≡ m.component)
+pub search_lead : (ds : List (List Term)) (m : Monomial) → ((b : List Term) → Contains ds b → (lead_mono b).component ≡ m.component)
     → IsLeadMultiple ds m ⊎ ((b : List Term) → Contains ds b → Divides (lead_mono b) m → ⊥)
 search_lead [] m h = inr (λ b c d. contains_none b c)
 search_lead (q ∷ ds) m h = go (divides_or_not (lead_mono q) m (h q (contains_head q ds))) (search_lead ds m (λ b c. h b (contains_tail q b ds c)))

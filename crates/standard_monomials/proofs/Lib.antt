@@ -1,0 +1,10 @@
+pub mod Remainders
+pub mod Unique
+pub mod Space
+pub mod Counting
+pub mod Powers
+pub mod Infinite
+pub mod Finite
+pub mod Bases
+pub mod Search
+pub mod Examples
