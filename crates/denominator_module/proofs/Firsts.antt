@@ -118,6 +118,21 @@ begins_first p (u ∷ g) t f c e = go (u.mono.component == 0) refl e
         let z : [] ≡ t ∷ f = sym (none_first g low) ∙ e in
         absurd (cc)
 
+pub first_generator : (p n shift : ℕ) (b : List Term) → IsGenerator p n shift b → IsHomogeneousPoly p n (first b)
+first_generator p n shift b h =
+    record {
+      generator = record {
+        vector = record { canonical = canonical_first p b h.vector.canonical; graded = every_first (IsGraded n) b h.vector.graded };
+        homogeneous = (h.homogeneous.0, degrees (first b) (plain_first b) (every_first (λ m. degree_at shift m ≡ h.homogeneous.0) b h.homogeneous.1));
+      };
+      plain = plain_first b;
+    }
+  where
+    degrees : (f : List Term) → EachMono IsPlain f → HasDegree shift h.homogeneous.0 f → HasDegree 0 h.homogeneous.0 f
+    degrees f a b =
+        every_more (λ m. IsPlain m × (degree_at shift m ≡ h.homogeneous.0)) (λ m. degree_at 0 m ≡ h.homogeneous.0) f
+        (λ m x. sym (plain_degree shift m x.0) ∙ x.1) (every_zip IsPlain (λ m. degree_at shift m ≡ h.homogeneous.0) f a b)
+
 module _ (p n : ℕ) (d : List Term) (gs : List (List Term)) (given : AreGiven p n d gs) where
   above : 0 < p
   above = pos p n d gs given
@@ -132,21 +147,6 @@ module _ (p n : ℕ) (d : List Term) (gs : List (List Term)) (given : AreGiven p
   first_inside v r =
       let q = pairs p n d gs given v r in
       subst (InModule p n (homogenised d ∷ all_homogenised gs)) (sym q.sum) (module_cons p n given.six above (second v) (homogenised d) q.rest (all_homogenised gs) q.factor q.inside)
-
-  pub first_homogeneous : (b : List Term) → IsGenerator p n (degree_of d) b → IsHomogeneousPoly p n (first b)
-  first_homogeneous b h =
-      record {
-        generator = record {
-          vector = record { canonical = canonical_first p b h.vector.canonical; graded = every_first (IsGraded n) b h.vector.graded };
-          homogeneous = (h.homogeneous.0, degrees (first b) (plain_first b) (every_first (λ m. degree_at (degree_of d) m ≡ h.homogeneous.0) b h.homogeneous.1));
-        };
-        plain = plain_first b;
-      }
-    where
-      degrees : (f : List Term) → EachMono IsPlain f → HasDegree (degree_of d) h.homogeneous.0 f → HasDegree 0 h.homogeneous.0 f
-      degrees f a b =
-          every_more (λ m. IsPlain m × (degree_at (degree_of d) m ≡ h.homogeneous.0)) (λ m. degree_at 0 m ≡ h.homogeneous.0) f
-          (λ m x. sym (plain_degree (degree_of d) m x.0) ∙ x.1) (every_zip IsPlain (λ m. degree_at (degree_of d) m ≡ h.homogeneous.0) f a b)
 
   module _ (bs : List (List Term)) (mb : IsModuleBasis p n d gs bs) where
     abbrev pub M : List (List Term)
@@ -164,7 +164,7 @@ module _ (p n : ℕ) (d : List Term) (gs : List (List Term)) (given : AreGiven p
     all_inside = all_from (InModule p n M) bs inside
 
     pub homogeneous_firsts : All (IsHomogeneousPoly p n) (firsts_of bs)
-    homogeneous_firsts = all_firsts (IsGenerator p n (degree_of d)) (IsHomogeneousPoly p n) bs (λ b h z. first_homogeneous b h) mb.vectors
+    homogeneous_firsts = all_firsts (IsGenerator p n (degree_of d)) (IsHomogeneousPoly p n) bs (λ b h z. first_generator p n (degree_of d) b h) mb.vectors
 
     pub firsts_inside : All (InModule p n (all_homogenised (d ∷ gs))) (firsts_of bs)
     firsts_inside = all_firsts (InModule p n M) (InModule p n (all_homogenised (d ∷ gs))) bs (λ b r z. first_inside b r) all_inside
