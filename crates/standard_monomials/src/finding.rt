@@ -1,7 +1,7 @@
 // The standard monomials of an ideal and their number, by its reduced basis.
 ghost use Rattle.std.specs.Prelude.{◌≡◌, ◌↔◌, ℕ, ◌<◌, ◌≤◌, List, length, All, Contains, IsTrue, IfOk, OnOk};
 ghost use Rattle.std.specs.Bool.{MatchBool};
-ghost use Rattle.monomials.specs.Mono.{Monomial, IsMono, total_degree};
+ghost use Rattle.monomials.specs.Mono.{Monomial, total_degree};
 ghost use Rattle.polys.specs.Ideal.{HasDim, HasInfiniteDim};
 ghost use Rattle.polys.specs.Reduced.{Reduced};
 ghost use Rattle.graded_modules.specs.Module.{IsLeadMultiple};

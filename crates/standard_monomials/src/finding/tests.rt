@@ -1,5 +1,5 @@
 // Ideals of monomials, whose standard monomials are listed by hand.
-ghost use Rattle.std.specs.Prelude.{◌≡◌, ℕ, ◌<◌, ◌≤◌, All, IfOk, IsTrue, map};
+ghost use Rattle.std.specs.Prelude.{◌≡◌, ◌<◌, ◌≤◌, All, IfOk, IsTrue, map};
 ghost use Rattle.std.specs.declared.cmp.Ordering.TheVariants.{Less};
 ghost use Rattle.monomials.specs.Mono.{Divides, cmp_dp};
 ghost use Rattle.polys.specs.Reduced.{Reduced};
