@@ -12,3 +12,15 @@ pub mod Classes
 pub mod Fits
 pub mod Handing
 pub mod Steps
+pub mod Marks
+pub mod Evaluates
+pub mod ScanReads
+pub mod TokensOf
+pub mod ScanTrees
+pub mod SmallValues
+pub mod ScanLists
+pub mod Rings
+pub mod Bodies
+pub mod Wholes
+pub mod Statements
+pub mod Outcomes

@@ -8,7 +8,7 @@ pub scan_end : (letters : List ℕ) (s : Scan) (ts : List (List ℕ)) → ts ≡
 unfolding scan
 scan_end letters s ts is = rw is refl
 
-scan_next : (letters : List ℕ) (s : Scan) (t : List ℕ) (ts : List (List ℕ)) → scan letters s (t ∷ ts) ≡ option_and_then (λ (next : Scan). scan letters next ts) (step letters s t)
+pub scan_next : (letters : List ℕ) (s : Scan) (t : List ℕ) (ts : List (List ℕ)) → scan letters s (t ∷ ts) ≡ option_and_then (λ (next : Scan). scan letters next ts) (step letters s t)
 unfolding scan
 scan_next letters s t ts = refl
 

@@ -8,5 +8,7 @@ pub mod Words
 pub mod Scanning
 pub mod Expressions
 pub mod Values
+pub mod ProblemText
 pub mod Reading
 pub mod Evaluating
+pub mod Forms

@@ -20,7 +20,6 @@ first_scan = record {
   digits = 0;
   expressions = 0;
   generators = 0;
-  has_poly = false;
   statements = 0;
   longest = 0;
 }
@@ -91,7 +90,7 @@ is_ideal _ = false
 abbrev pub next_statement : List ℕ → Scan → Option Scan
 next_statement token s =
     if same_token token (codes "at") then Some (record s { place = Start; part = At; expressions = 0; statements = s.statements + 1 })
-    else (if same_token token (codes "poly") && is_ideal s.part then Some (record s { place = PolyName; part = Poly; expressions = 0; has_poly = true })
+    else (if same_token token (codes "poly") && is_ideal s.part then Some (record s { place = PolyName; part = Poly; expressions = 0 })
     else None)
 
 -- with the digits of the token counted

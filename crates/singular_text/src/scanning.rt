@@ -48,7 +48,6 @@ pub struct Scan {
     /// Whole expressions of this statement.
     pub expressions: usize,
     pub generators: usize,
-    pub has_poly: bool,
     /// The `at` statements, and the most expressions of one.
     pub statements: usize,
     pub longest: usize,
@@ -67,7 +66,6 @@ impl Scan {
             digits: 0,
             expressions: 0,
             generators: 0,
-            has_poly: false,
             statements: 0,
             longest: 0,
         }
@@ -224,7 +222,6 @@ impl Scan {
                 place: Place::PolyName,
                 part: Part::Poly,
                 expressions: 0,
-                has_poly: true,
                 ..self
             });
         }
