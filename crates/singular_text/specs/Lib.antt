@@ -3,3 +3,12 @@ pub mod PolyText
 pub mod Printing
 pub mod Parts
 pub mod Problem
+pub mod Tokens
+pub mod Words
+pub mod Scanning
+pub mod Expressions
+pub mod Values
+pub mod ProblemText
+pub mod Reading
+pub mod Evaluating
+pub mod Forms

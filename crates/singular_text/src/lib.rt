@@ -4,11 +4,23 @@
 //! alone.
 #![tactic(auto)]
 
+mod evaluation;
+mod faults;
 mod letters;
 mod printing;
+mod problem;
+mod ring;
+mod scanning;
+mod tokens;
+mod values;
+mod words;
 
+pub use faults::{ReadFault, Which};
 pub use letters::Letters;
 pub use printing::{print_bytes, print_number, print_poly};
+pub use problem::{Problem, read_problem};
 
+#[cfg(test)]
+mod reading_tests;
 #[cfg(test)]
 mod tests;
