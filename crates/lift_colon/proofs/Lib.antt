@@ -1,0 +1,3 @@
+mod Vectors
+mod Members
+mod Bases

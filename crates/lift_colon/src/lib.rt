@@ -1,0 +1,7 @@
+//! Lifts over a denominator, colon ideals, and the decisions on a denominator.
+#![tactic(auto)]
+
+mod lifted;
+mod parts;
+
+pub use lifted::Lifted;
