@@ -151,11 +151,10 @@ module _ (p n : ℕ) (prime : IsPrime p) (six : n ≤ 6) (generators : List Poly
 
   module _ (ideal : List Polynomial) (io : All (IsOver p n) ideal) (ib : IsReducedBasis p n (InIdeal p n (term_lists generators)) (term_lists ideal)) where
     same_ideal : (f : List Term) → InIdeal p n (term_lists generators) f ↔ InIdeal p n (term_lists ideal) f
-    same_ideal f =
-        (
-          λ r. (ib.exact f (in_poly p n (term_lists generators) f pos ga.generators r)).1 r,
-          λ r. (ib.exact f (in_poly p n (term_lists ideal) f pos ib.reduced.polys r)).0 r,
-        )
+    same_ideal f = (
+      λ r. (ib.exact f (in_poly p n (term_lists generators) f pos ga.generators r)).1 r,
+      λ r. (ib.exact f (in_poly p n (term_lists ideal) f pos ib.reduced.polys r)).0 r,
+    )
 
     larger : (hs cs : List (List Term)) → All (IsPoly p n) hs → ((f : List Term) → InIdeal p n hs f → InIdeal p n cs f) → (f : List Term) → InIdeal p n (d.terms ∷ hs) f → InIdeal p n (d.terms ∷ cs) f
     larger hs cs h k f r =
@@ -164,38 +163,36 @@ module _ (p n : ℕ) (prime : IsPrime p) (six : n ≤ 6) (generators : List Poly
         (all_from (InIdeal p n (d.terms ∷ cs)) hs (λ g c. in_more p n d.terms cs g (k g (in_generator p n hs g two h c))))) r
 
     same_sum : (f : List Term) → IsPoly p n f → InIdeal p n (d.terms ∷ term_lists generators) f ↔ InIdeal p n (d.terms ∷ term_lists ideal) f
-    same_sum f a =
-        (
-          larger (term_lists generators) (term_lists ideal) ga.generators (λ g r. (same_ideal g).0 r) f,
-          larger (term_lists ideal) (term_lists generators) ib.reduced.polys (λ g r. (same_ideal g).1 r) f,
-        )
+    same_sum f a = (
+      larger (term_lists generators) (term_lists ideal) ga.generators (λ g r. (same_ideal g).0 r) f,
+      larger (term_lists ideal) (term_lists generators) ib.reduced.polys (λ g r. (same_ideal g).1 r) f,
+    )
 
     pub lifted : (some : 1 ≤ n) (sums colons sum colon : List Polynomial) → term_lists sums ≡ sum_members p (term_lists m.vectors) → term_lists colons ≡ colon_members p (term_lists m.vectors)
         → All (IsOver p n) sum → All (IsOver p n) colon → IsReducedBasis p n (InIdeal p n (term_lists sums)) (term_lists sum) → IsReducedBasis p n (InIdeal p n (term_lists colons)) (term_lists colon)
         → All (λ f. degree_of f ≤ 1000) (term_lists colon)
         → IsLifted (record { prime = p; variables = n; denominator = d; ideal = ideal; sum = sum; colon = colon })
         × HasModule (record { prime = p; variables = n; denominator = d; ideal = ideal; sum = sum; colon = colon }) m
-    lifted some sums colons sum colon es' ec so co bs' bc lc =
-        (
-          record {
-            prime = prime;
-            some_variables = some;
-            six_variables = six;
-            denominator = do_;
-            ideal_over = io;
-            sum_over = so;
-            colon_over = co;
-            ideal = basis_for p n (InIdeal p n (term_lists generators)) (InIdeal p n (term_lists ideal)) (term_lists ideal) (λ f a. same_ideal f) ib;
-            sum = basis_for p n (InIdeal p n (d.terms ∷ term_lists generators)) (InIdeal p n (d.terms ∷ term_lists ideal)) (term_lists sum) same_sum
+    lifted some sums colons sum colon es' ec so co bs' bc lc = (
+      record {
+        prime = prime;
+        some_variables = some;
+        six_variables = six;
+        denominator = do_;
+        ideal_over = io;
+        sum_over = so;
+        colon_over = co;
+        ideal = basis_for p n (InIdeal p n (term_lists generators)) (InIdeal p n (term_lists ideal)) (term_lists ideal) (λ f a. same_ideal f) ib;
+        sum = basis_for p n (InIdeal p n (d.terms ∷ term_lists generators)) (InIdeal p n (d.terms ∷ term_lists ideal)) (term_lists sum) same_sum
             (basis_by p n (InIdeal p n (d.terms ∷ term_lists generators)) (sum_members p (term_lists m.vectors)) (term_lists sum)
             (parts_law.sum p n d.terms (term_lists generators) (term_lists m.vectors) ga mb) (subst (λ w. IsReducedBasis p n (InIdeal p n w) (term_lists sum)) es' bs'));
-            colon = basis_for p n (InColon p n (term_lists generators) d.terms) (InColon p n (term_lists ideal) d.terms) (term_lists colon) (λ f a. same_ideal (mul p d.terms f))
+        colon = basis_for p n (InColon p n (term_lists generators) d.terms) (InColon p n (term_lists ideal) d.terms) (term_lists colon) (λ f a. same_ideal (mul p d.terms f))
             (basis_by p n (InColon p n (term_lists generators) d.terms) (colon_members p (term_lists m.vectors)) (term_lists colon)
             (parts_law.colon p n d.terms (term_lists generators) (term_lists m.vectors) ga mb) (subst (λ w. IsReducedBasis p n (InIdeal p n w) (term_lists colon)) ec bc));
-            low = lc;
-          },
-          record { generators = term_lists generators; given = ga; same = same_ideal; prime = ep; variables = en; shift = es; span = span; low = low_at },
-        )
+        low = lc;
+      },
+      record { generators = term_lists generators; given = ga; same = same_ideal; prime = ep; variables = en; shift = es; basis = known; span = span; low = low_at },
+    )
 
 -- ---- a module spanned by polynomials has a basis of polynomials
 
@@ -254,19 +251,17 @@ module _ (p n : ℕ) (prime : IsPrime p) (six : n ≤ 6) (ideal : List Polynomia
       (subst (λ x. IsReducedBasis x b.variables (InIdeal x b.variables (all_dehomogenised x (all_homogenised (term_lists ideal)))) ds) ep r))
 
   pub deep_ideal : (limit : ℕ) → AreDeep gens limit ↔ IsDeep p n 0 (all_homogenised (term_lists ideal)) limit
-  deep_ideal limit =
-      (
-        deep_same gens.prime p gens.variables n gens.shift 0 limit (term_lists gens.vectors) (all_homogenised (term_lists ideal)) ring.0 ring.1 ring.2 lists,
-        deep_same p gens.prime n gens.variables 0 gens.shift limit (all_homogenised (term_lists ideal)) (term_lists gens.vectors) (sym ring.0) (sym ring.1) (sym ring.2) (sym lists),
-      )
+  deep_ideal limit = (
+    deep_same gens.prime p gens.variables n gens.shift 0 limit (term_lists gens.vectors) (all_homogenised (term_lists ideal)) ring.0 ring.1 ring.2 lists,
+    deep_same p gens.prime n gens.variables 0 gens.shift limit (all_homogenised (term_lists ideal)) (term_lists gens.vectors) (sym ring.0) (sym ring.1) (sym ring.2) (sym lists),
+  )
 
 pub deep_pairs : (p n : ℕ) (d : Polynomial) (ideal : List Polynomial) (pairs : Gens) (limit : ℕ) → pairs.prime ≡ p → pairs.variables ≡ n → pairs.shift ≡ degree_of d.terms
     → term_lists pairs.vectors ≡ module_of d.terms (term_lists ideal) → AreDeep pairs limit ↔ IsDeepDenominator p n d.terms (term_lists ideal) limit
-deep_pairs p n d ideal pairs limit ep en es ev =
-    (
-      deep_same pairs.prime p pairs.variables n pairs.shift (degree_of d.terms) limit (term_lists pairs.vectors) (module_of d.terms (term_lists ideal)) ep en es ev,
-      deep_same p pairs.prime n pairs.variables (degree_of d.terms) pairs.shift limit (module_of d.terms (term_lists ideal)) (term_lists pairs.vectors) (sym ep) (sym en) (sym es) (sym ev),
-    )
+deep_pairs p n d ideal pairs limit ep en es ev = (
+  deep_same pairs.prime p pairs.variables n pairs.shift (degree_of d.terms) limit (term_lists pairs.vectors) (module_of d.terms (term_lists ideal)) ep en es ev,
+  deep_same p pairs.prime n pairs.variables (degree_of d.terms) pairs.shift limit (module_of d.terms (term_lists ideal)) (term_lists pairs.vectors) (sym ep) (sym en) (sym es) (sym ev),
+)
 
 pub span_pairs : (p n : ℕ) (d : Polynomial) (ideal : List Polynomial) (pairs b : Gens) → pairs.prime ≡ p → pairs.variables ≡ n → term_lists pairs.vectors ≡ module_of d.terms (term_lists ideal)
     → HaveOneSpan pairs b → SpanOneModule p n (module_of d.terms (term_lists ideal)) (term_lists b.vectors)

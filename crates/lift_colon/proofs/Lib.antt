@@ -1,3 +1,4 @@
 mod Vectors
 mod Members
 mod Bases
+mod Lifting

@@ -57,11 +57,10 @@ module _ (p : ℕ) (ps vs : List Polynomial) (i : ℕ) (v : Polynomial) (h : i <
   pub sum_kept : (ws : List Polynomial) (q : Polynomial) → AreSums p ps (take i vs) → ((lead_mono v.terms).component ≡ 0) → q.prime ≡ p → q.terms ≡ dehomogenised p (first v.terms)
       → ws ≡ ps ++ q ∷ [] → AreSums p ws (take (i + 1) vs)
   sum_kept ws q a z k t w =
-      subst (λ x. AreSums p x (take (i + 1) vs)) (sym w)
-      (
+      subst (λ x. AreSums p x (take (i + 1) vs)) (sym w) (
         all_append (λ f. f.prime ≡ p) ps q a.0 k,
         lists-append ps (q ∷ []) ∙ (λ j. a.1 j ++ t j ∷ []) ∙ ap (λ x. sum_members p (term_lists (take i vs)) ++ x) (go ((lead_mono v.terms).component == 0) refl)
-        ∙ sym (ap (sum_members p) (next vs i v h e) ∙ sum-append p (term_lists (take i vs)) (v.terms ∷ [])),
+            ∙ sym (ap (sum_members p) (next vs i v h e) ∙ sum-append p (term_lists (take i vs)) (v.terms ∷ [])),
       )
     where
       go : (k : Bool) → ((lead_mono v.terms).component == 0) ≡ k → dehomogenised p (first v.terms) ∷ [] ≡ cond k (dehomogenised p (first v.terms) ∷ []) []
@@ -69,12 +68,11 @@ module _ (p : ℕ) (ps vs : List Polynomial) (i : ℕ) (v : Polynomial) (h : i <
       go false s = absurd (eqb-false (lead_mono v.terms).component 0 s z)
 
   pub sum_left : AreSums p ps (take i vs) → ((lead_mono v.terms).component ≡ 0 → ⊥) → AreSums p ps (take (i + 1) vs)
-  sum_left a z =
-      (
-        a.0,
-        a.1 ∙ sym (ap (sum_members p) (next vs i v h e) ∙ sum-append p (term_lists (take i vs)) (v.terms ∷ [])
+  sum_left a z = (
+    a.0,
+    a.1 ∙ sym (ap (sum_members p) (next vs i v h e) ∙ sum-append p (term_lists (take i vs)) (v.terms ∷ [])
         ∙ ap (λ x. sum_members p (term_lists (take i vs)) ++ x) (go ((lead_mono v.terms).component == 0) refl) ∙ append-nil (sum_members p (term_lists (take i vs)))),
-      )
+  )
     where
       go : (k : Bool) → ((lead_mono v.terms).component == 0) ≡ k → cond k (dehomogenised p (first v.terms) ∷ []) [] ≡ []
       go true s = absurd (z (eqb-true (lead_mono v.terms).component 0 s))
@@ -83,11 +81,10 @@ module _ (p : ℕ) (ps vs : List Polynomial) (i : ℕ) (v : Polynomial) (h : i <
   pub colon_kept : (ws : List Polynomial) (q : Polynomial) → AreColons p ps (take i vs) → ((lead_mono v.terms).component ≡ 0 → ⊥) → q.prime ≡ p
       → q.terms ≡ dehomogenised p (second v.terms) → ws ≡ ps ++ q ∷ [] → AreColons p ws (take (i + 1) vs)
   colon_kept ws q a z k t w =
-      subst (λ x. AreColons p x (take (i + 1) vs)) (sym w)
-      (
+      subst (λ x. AreColons p x (take (i + 1) vs)) (sym w) (
         all_append (λ f. f.prime ≡ p) ps q a.0 k,
         lists-append ps (q ∷ []) ∙ (λ j. a.1 j ++ t j ∷ []) ∙ ap (λ x. colon_members p (term_lists (take i vs)) ++ x) (go ((lead_mono v.terms).component == 0) refl)
-        ∙ sym (ap (colon_members p) (next vs i v h e) ∙ colon-append p (term_lists (take i vs)) (v.terms ∷ [])),
+            ∙ sym (ap (colon_members p) (next vs i v h e) ∙ colon-append p (term_lists (take i vs)) (v.terms ∷ [])),
       )
     where
       go : (k : Bool) → ((lead_mono v.terms).component == 0) ≡ k → dehomogenised p (second v.terms) ∷ [] ≡ cond k [] (dehomogenised p (second v.terms) ∷ [])
@@ -95,12 +92,11 @@ module _ (p : ℕ) (ps vs : List Polynomial) (i : ℕ) (v : Polynomial) (h : i <
       go false s = refl
 
   pub colon_left : AreColons p ps (take i vs) → ((lead_mono v.terms).component ≡ 0) → AreColons p ps (take (i + 1) vs)
-  colon_left a z =
-      (
-        a.0,
-        a.1 ∙ sym (ap (colon_members p) (next vs i v h e) ∙ colon-append p (term_lists (take i vs)) (v.terms ∷ [])
+  colon_left a z = (
+    a.0,
+    a.1 ∙ sym (ap (colon_members p) (next vs i v h e) ∙ colon-append p (term_lists (take i vs)) (v.terms ∷ [])
         ∙ ap (λ x. colon_members p (term_lists (take i vs)) ++ x) (go ((lead_mono v.terms).component == 0) refl) ∙ append-nil (colon_members p (term_lists (take i vs)))),
-      )
+  )
     where
       go : (k : Bool) → ((lead_mono v.terms).component == 0) ≡ k → cond k [] (dehomogenised p (second v.terms) ∷ []) ≡ []
       go true s = refl

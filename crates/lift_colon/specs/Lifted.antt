@@ -15,6 +15,7 @@ use Rattle.homogenising.specs.Homogenised.{all_homogenised}
 use Rattle.denominator_module.specs.Laws.{AreGiven}
 use Rattle.denominator_module.specs.Module.{module_of, IsDeepDenominator, IsColonBasis}
 use Rattle.module_basis.specs.declared.gens.Gens.{Gens}
+use Rattle.module_basis.specs.Basis.{IsGradedBasis}
 use Rattle.module_basis.specs.Gens.{term_lists}
 
 -- the ideal by its reduced basis, the denominator, and the reduced bases of their sum and of the colon ideal
@@ -48,6 +49,7 @@ pub record HasModule (l : LiftedData) (m : Gens) : Type 0 where
   pub prime : m.prime ≡ l.prime
   pub variables : m.variables ≡ l.variables
   pub shift : m.shift ≡ degree_of l.denominator.terms
+  pub basis : IsGradedBasis m
   pub span : SpanOneModule l.prime l.variables (module_of l.denominator.terms generators) (term_lists m.vectors)
   pub low : All (λ f. degree_at (degree_of l.denominator.terms) (lead_mono f) ≤ 1000) (term_lists m.vectors)
 

@@ -42,15 +42,11 @@ impl Model for Lifted {
 
     ghost Value = { LiftedData };
 
-    ghost view = {
-        λ l. record { prime = l.prime; variables = l.variables; denominator = l.denominator; ideal = l.ideal; sum = l.sum; colon = l.colon }
-    };
+    ghost view = { λ l. record { prime = l.prime; variables = l.variables; denominator = l.denominator; ideal = l.ideal; sum = l.sum; colon = l.colon } };
 
-    ghost invariant = {
-        λ l.
+    ghost invariant = { λ l.
         IsLifted (record { prime = l.prime; variables = l.variables; denominator = l.denominator; ideal = l.ideal; sum = l.sum; colon = l.colon })
-        × HasModule (record { prime = l.prime; variables = l.variables; denominator = l.denominator; ideal = l.ideal; sum = l.sum; colon = l.colon }) l.graded
-    };
+        × HasModule (record { prime = l.prime; variables = l.variables; denominator = l.denominator; ideal = l.ideal; sum = l.sum; colon = l.colon }) l.graded };
 }
 
 // The reduced basis of the module of a denominator.
@@ -148,15 +144,7 @@ impl Lifted {
         let gens = Gens::homogenised(alloc, prime, variables, ideal)?;
         let basis = graded_basis(alloc, &gens, cap)?.dehomogenised()?;
         let graded = denominator_basis(alloc, prime, variables, ideal, d, cap)?;
-        Ok(of_module(
-            alloc,
-            prime,
-            variables,
-            ideal,
-            d,
-            basis,
-            graded,
-        )?)
+        Ok(of_module(alloc, prime, variables, ideal, d, basis, graded)?)
     }
 
     /// The prime.
@@ -204,4 +192,48 @@ impl Lifted {
     {
         self.colon.as_slice()
     }
+}
+
+impl Lifted {
+    /// A polynomial u for which g - u d is in I, or `None` exactly where g is not in I + (d). Where u is not 0, its
+    /// degree and that of d are together at most the degree of g plus 1,000.
+    ///
+    /// It is the normal form of g, lifted by 1,000 degrees, modulo the module of d.
+    pub fn lift(&self, alloc: Global, g: &Poly) -> Result<Option<Poly>, NoMemory>
+        requires prime { g.now.prime ≡ self.now.prime }
+        requires poly { IsPoly self.now.prime self.now.variables g.now.terms }
+        requires room { degree_of g.now.terms ≤ 59000 }
+        ensures some { IfOk result (λ u. IfSome u (λ u. (u.prime ≡ self.now.prime) × IsLift self.now g.now.terms u.terms)) }
+        ensures none { IfOk result (λ u. IsNone u ↔ (InIdeal self.now.prime self.now.variables (self.now.denominator.terms ∷ term_lists self.now.ideal) g.now.terms → ⊥)) }
+    {
+        let high = homogenised_to(alloc, self.variables, g.degree() + 1000, g)?;
+        let rest = self.graded.normal_form(&high)?;
+        if first_part(alloc, &rest)?.lead().is_some() {
+            return Ok(None);
+        }
+        let part = dehomogenised(alloc, self.variables, &second_part(alloc, &rest)?)?;
+        Ok(Some(Poly::zero(alloc, self.prime).sub(&part)?))
+    }
+
+    /// Whether d is regular modulo I: whether the colon ideal I : d is I.
+    pub fn is_regular(&self) -> Result<bool, NoMemory>
+        ensures { IfOk result (λ yes. IsTrue yes ↔ Regular self.now.prime self.now.variables (term_lists self.now.ideal) self.now.denominator.terms) }
+    {
+        Ok(are_same(self.ideal.as_slice(), self.colon.as_slice()))
+    }
+}
+
+// Whether two lists of polynomials are equal.
+fn are_same(a: &[Poly], b: &[Poly]) -> bool
+    ensures { IsTrue result ↔ (a.now ≡ b.now) }
+{
+    if a.len() != b.len() {
+        return false;
+    }
+    for i in 0..a.len() {
+        if !a[i].same(&b[i]) {
+            return false;
+        }
+    }
+    true
 }

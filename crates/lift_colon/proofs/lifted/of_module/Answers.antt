@@ -12,20 +12,18 @@ use Rattle.lift_colon.proofs.lifted.of_module.Goals as goal
 
 pub sum_part-requires-clause-vectors : goal.sum_part-requires-clause-vectors
 sum_part-requires-clause-vectors c =
-    let q = c.requires in
-    (
+    let q = c.requires in (
       degree_of c.args.d.now.terms,
       subst (All (IsHomogeneousOver c.args.prime c.args.variables (degree_of c.args.d.now.terms))) (sym c.vectors-vectors.ensures.value)
-      (vectors_over c.args.prime c.args.variables q.prime q.six_variables c.args.generators.now c.args.d.now q.generators q.denominator c.args.graded c.vectors-vectors.ensures.known q.ring.0 q.ring.1 q.ring.2 q.span q.low),
+          (vectors_over c.args.prime c.args.variables q.prime q.six_variables c.args.generators.now c.args.d.now q.generators q.denominator c.args.graded c.vectors-vectors.ensures.known q.ring.0 q.ring.1 q.ring.2 q.span q.low),
     )
 
 pub colon_part-requires-clause-vectors : goal.colon_part-requires-clause-vectors
 colon_part-requires-clause-vectors c =
-    let q = c.requires in
-    (
+    let q = c.requires in (
       degree_of c.args.d.now.terms,
       subst (All (IsHomogeneousOver c.args.prime c.args.variables (degree_of c.args.d.now.terms))) (sym c.vectors-vectors.ensures.value)
-      (vectors_over c.args.prime c.args.variables q.prime q.six_variables c.args.generators.now c.args.d.now q.generators q.denominator c.args.graded c.vectors-vectors.ensures.known q.ring.0 q.ring.1 q.ring.2 q.span q.low),
+          (vectors_over c.args.prime c.args.variables q.prime q.six_variables c.args.generators.now c.args.d.now q.generators q.denominator c.args.graded c.vectors-vectors.ensures.known q.ring.0 q.ring.1 q.ring.2 q.span q.low),
     )
 
 pub interreduced-requires-clause-standard : goal.interreduced-requires-clause-standard

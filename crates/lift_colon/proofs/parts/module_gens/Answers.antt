@@ -14,13 +14,13 @@ returns-clause-gens c =
     let ring = c.in_ok-gens.ensures.ring in
     let over = all_at g.prime c.args.prime g.variables c.args.variables g.shift 0 g.vectors ring.0 ring.1 ring.2 c.in_ok-gens.ensures.gens.vectors in
     let lists : term_lists (u ∷ g.vectors) ≡ module_of c.args.d.now.terms (term_lists c.args.ideal.now) =
-        λ i. c.in_ok-unit_vector.ensures.terms i ∷ c.in_ok-gens.ensures.vectors i
+    λ i. c.in_ok-unit_vector.ensures.terms i ∷ c.in_ok-gens.ensures.vectors i
     in
     record {
       some_variables = c.requires.some_variables;
       six_variables = c.requires.six_variables;
       vectors = subst (λ s. All (IsHomogeneousOver c.args.prime c.args.variables s) c.of_vec.result) (sym c.degree.ensures)
-      (subst (All (IsHomogeneousOver c.args.prime c.args.variables _)) (sym whole)
-      (module_over c.args.prime c.args.variables c.requires.six_variables c.requires.prime c.args.d.now c.args.ideal.now u g.vectors c.requires.denominator c.requires.ideal
-      c.in_ok-unit_vector.ensures.prime over lists));
+          (subst (All (IsHomogeneousOver c.args.prime c.args.variables _)) (sym whole)
+          (module_over c.args.prime c.args.variables c.requires.six_variables c.requires.prime c.args.d.now c.args.ideal.now u g.vectors c.requires.denominator c.requires.ideal
+          c.in_ok-unit_vector.ensures.prime over lists));
     }

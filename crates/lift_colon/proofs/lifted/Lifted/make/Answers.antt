@@ -12,12 +12,11 @@ pub dehomogenised-requires : goal.dehomogenised-requires
 dehomogenised-requires c =
     record {
       plain = plain_vectors c.args.prime c.args.variables (subst IsPrime c.get-prime.ensures.value c.get-prime.ensures.prime) c.requires.six_variables c.args.ideal.now c.requires.ideal c.in_ok-gens.gens c.in_ok-graded_basis.field-0
-      c.in_ok-gens.ensures.ring c.in_ok-gens.ensures.vectors c.in_ok-graded_basis.ensures.ring c.in_ok-graded_basis.ensures.reduced c.in_ok-graded_basis.ensures.span c.in_ok-gens.ensures.plain;
+          c.in_ok-gens.ensures.ring c.in_ok-gens.ensures.vectors c.in_ok-graded_basis.ensures.ring c.in_ok-graded_basis.ensures.reduced c.in_ok-graded_basis.ensures.span c.in_ok-gens.ensures.plain;
     }
 
 pub denominator_basis-requires-clause-room : goal.denominator_basis-requires-clause-room
 denominator_basis-requires-clause-room c = low_degree c.args.d.now.prime c.args.d.now.terms c.terms-terms.ensures.known
-
 
 pub of_module-requires-clause-ideal : goal.of_module-requires-clause-ideal
 of_module-requires-clause-ideal c =
