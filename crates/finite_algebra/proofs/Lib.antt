@@ -1,0 +1,16 @@
+pub mod Totals
+pub mod Units
+pub mod Products
+pub mod Classes
+pub mod Counting
+pub mod Images
+pub mod QuotientLaws
+pub mod Weights
+pub mod Freeing
+pub mod Summing
+pub mod Powers
+pub mod Listing
+pub mod QuotientHolds
+pub mod BasisLaws
+pub mod Examples
+pub mod PrincipalIdeals

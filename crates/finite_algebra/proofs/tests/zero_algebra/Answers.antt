@@ -1,0 +1,6 @@
+use Rattle.std.proofs.Common.{arith}
+use Rattle.finite_algebra.proofs.Examples.{zero_laws}
+use Rattle.finite_algebra.proofs.tests.zero_algebra.Goals as goal
+
+pub algebra_of-requires : goal.algebra_of-requires
+algebra_of-requires g c = (omega arith, zero_laws)

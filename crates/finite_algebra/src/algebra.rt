@@ -1,0 +1,209 @@
+// A finite-dimensional commutative algebra by the products of its basis elements.
+ghost use Rattle.std.specs.Prelude.{◌≡◌, length, IfOk, IsTrue, false};
+ghost use Rattle.comm_ring.specs.Ring.{IsCommRing, pow};
+ghost use Rattle.finite_algebra.specs.Elements.{BasisLawsSuffice};
+
+use super::multiples::{add_multiples, copy_of, zero_row};
+use super::projecting::{at_all_places, free_places, image, image_products, reduced_units};
+use norm_outside::{List, NoMemory};
+use prime_field::Prime;
+use row_space::Space;
+use std::marker::Model;
+use std::mem;
+
+/// A commutative algebra with one over F_p of a finite dimension n. An element is a row of n
+/// residues, its coordinates.
+///
+/// It is kept by n * n rows of n residues each: the row i * n + j is the product of the basis
+/// elements i and j.
+#[derive(Drop)]
+pub struct Algebra {
+    prime: Prime,
+    dimension: usize,
+    one: List<u32>,
+    products: Vec<List<u32>>,
+}
+
+impl Model for Algebra {
+    ghost use Rattle.finite_algebra.specs.Elements.{FiniteAlgebra, IsAlgebra};
+
+    ghost Value = { FiniteAlgebra };
+
+    ghost view = { λ a. record { prime = a.prime; dimension = a.dimension; one = a.one; products = a.products.items } };
+
+    ghost invariant = { λ a. IsAlgebra (record { prime = a.prime; dimension = a.dimension; one = a.one; products = a.products.items }) };
+}
+
+impl Algebra {
+    ghost use Rattle.finite_algebra.specs.Elements.{FiniteAlgebra, IsAlgebra, IsBilinear, IsElement, ring_of, times};
+    ghost use Rattle.finite_algebra.specs.Projections.{IsIdealOf, IsQuotient};
+
+    /// The algebra of dimension `n` with the row `one` as its one. The row i * n + j of `products` is
+    /// the product of the basis elements i and j, so the product of the elements x and y is the sum
+    /// over all i and j of x_i * y_j times this row. It must be commutative and associative, and
+    /// `one` its one; it is enough that this holds at the basis elements (`basis_laws_suffice`).
+    pub fn of_products(prime: Prime, n: usize, one: List<u32>, products: List<List<u32>>) -> Algebra
+        requires { IsAlgebra (record { prime = prime; dimension = n; one = one; products = products }) }
+        ensures { result ≡ record { prime = prime; dimension = n; one = one; products = products } }
+    {
+        Algebra {
+            prime,
+            dimension: n,
+            one,
+            products: products.into_vec(),
+        }
+    }
+
+    /// The prime p.
+    pub fn prime(&self) -> Prime
+        ensures { result ≡ self.now.prime }
+    {
+        self.prime
+    }
+
+    /// The dimension n, the number of coordinates of an element.
+    pub fn dimension(&self) -> usize
+        ensures { result ≡ self.now.dimension }
+    {
+        self.dimension
+    }
+
+    /// The one, as a row of n residues.
+    pub fn one(&self) -> &[u32]
+        ensures value { result.now ≡ self.now.one }
+        ensures laws { IsAlgebra self.now }
+        ensures ring { IsCommRing (ring_of self.now) }
+        ensures bilinear { IsBilinear self.now }
+    {
+        let _p = self.prime.get();
+        self.one.as_slice()
+    }
+
+    /// Puts the product of the elements `a` and `b` into `out`. All three rows have n entries.
+    ///
+    /// It takes a multiple of a row for each entry of `a` and each entry of `b` that are both not 0,
+    /// at most n * n multiples of rows with n entries.
+    pub fn product(&self, a: &[u32], b: &[u32], out: &mut [u32])
+        requires left { IsElement self.now a.now }
+        requires right { IsElement self.now b.now }
+        requires out { length out.old ≡ self.now.dimension }
+        ensures element { IsElement self.now out.new }
+        ensures product { out.new ≡ times self.now a.now b.now }
+    {
+        let _p = self.prime.get();
+        out.fill(0);
+        for i in 0..self.dimension {
+            let from = i * self.dimension;
+            let rows = &self.products[from..from + self.dimension];
+            add_multiples(self.prime, a[i], b, rows, out);
+        }
+    }
+
+    // Puts the product of `row` and `factor` into `row`, by way of `spare`.
+    fn multiply(&self, row: &mut Vec<u32>, factor: &[u32], spare: &mut Vec<u32>)
+        requires row { IsElement self.now row.old.items }
+        requires factor { IsElement self.now factor.now }
+        requires spare { length spare.old.items ≡ self.now.dimension }
+        ensures element { IsElement self.now row.new.items }
+        ensures product { row.new.items ≡ times self.now row.old.items factor.now }
+        ensures spare { length spare.new.items ≡ self.now.dimension }
+    {
+        self.product(row.as_slice(), factor, spare.as_mut_slice());
+        mem::swap(row, spare);
+    }
+
+    // Multiplies `row` by `factor` only where that is wanted.
+    fn multiply_if(&self, wanted: bool, row: &mut Vec<u32>, factor: &[u32], spare: &mut Vec<u32>)
+        requires row { IsElement self.now row.old.items }
+        requires factor { IsElement self.now factor.now }
+        requires spare { length spare.old.items ≡ self.now.dimension }
+        ensures element { IsElement self.now row.new.items }
+        ensures product { IsTrue wanted → row.new.items ≡ times self.now row.old.items factor.now }
+        ensures same { wanted ≡ false → row.new.items ≡ row.old.items }
+        ensures spare { length spare.new.items ≡ self.now.dimension }
+    {
+        if wanted {
+            self.multiply(row, factor, spare);
+        }
+    }
+
+    // Puts the square of `row` into `row`, by way of `spare`.
+    fn square(&self, row: &mut Vec<u32>, spare: &mut Vec<u32>)
+        requires row { IsElement self.now row.old.items }
+        requires spare { length spare.old.items ≡ self.now.dimension }
+        ensures element { IsElement self.now row.new.items }
+        ensures square { row.new.items ≡ times self.now row.old.items row.old.items }
+        ensures spare { length spare.new.items ≡ self.now.dimension }
+    {
+        self.product(row.as_slice(), row.as_slice(), spare.as_mut_slice());
+        mem::swap(row, spare);
+    }
+
+    /// The element `a` to the power `n`; to the power 0 it is the one.
+    ///
+    /// It takes a product for each binary digit of `n` and one more for each that is 1, over three
+    /// rows of memory.
+    pub fn power(&self, a: &[u32], n: u64) -> Result<List<u32>, NoMemory>
+        requires { IsElement self.now a.now }
+        ensures element { IfOk result (λ x. IsElement self.now x) }
+        ensures power { IfOk result (λ x. x ≡ pow (ring_of self.now) a.now n) }
+    {
+        let alloc = *self.products.allocator();
+        let _p = self.prime.get();
+        let mut found = copy_of(alloc, self.one.as_slice())?;
+        let mut square = copy_of(alloc, a)?;
+        let mut spare = zero_row(alloc, self.dimension)?;
+        let mut rest = n;
+        while rest > 0 {
+            self.multiply_if(rest % 2 == 1, &mut found, square.as_slice(), &mut spare);
+            self.square(&mut square, &mut spare);
+            rest /= 2;
+        }
+        Ok(List::of_vec(found))
+    }
+
+    /// The quotient by an ideal, and the matrix of the projection onto it: n rows of m residues, where
+    /// m is the dimension of the quotient. The image of an element is its row times the matrix.
+    ///
+    /// The basis of the quotient is that of the classes of the basis elements at which no row of the
+    /// ideal has its first entry that is not 0. It takes the images of m * m products, each a sum of
+    /// at most n multiples of rows with m entries.
+    pub fn quotient(&self, ideal: &Space) -> Result<(Algebra, List<List<u32>>), NoMemory>
+        requires { IsIdealOf self.now ideal.now }
+        ensures { IfOk result (λ made. IsQuotient self.now ideal.now made.0 made.1) }
+    {
+        let alloc = *self.products.allocator();
+        let _p = self.prime.get();
+        let classes = reduced_units(alloc, ideal, self.dimension)?;
+        let places = free_places(alloc, classes.as_slice())?;
+        let matrix = at_all_places(alloc, places.as_slice(), classes.as_slice())?;
+        let dimension = places.len();
+        let one = image(
+            alloc,
+            self.prime,
+            matrix.as_slice(),
+            dimension,
+            self.one.as_slice(),
+        )?;
+        let products = image_products(
+            alloc,
+            self.prime,
+            self.dimension,
+            self.products.as_slice(),
+            places.as_slice(),
+            matrix.as_slice(),
+        )?;
+        let made = Algebra {
+            prime: self.prime,
+            dimension,
+            one,
+            products: products.into_vec(),
+        };
+        Ok((made, matrix))
+    }
+}
+
+/// The laws of an algebra hold at all elements where they hold at its basis elements.
+pub fn basis_laws_suffice()
+    ensures { BasisLawsSuffice }
+{}
