@@ -1,7 +1,7 @@
 -- The bases of the parts of a module are those of the sum and of the colon ideal.
-use Rattle.std.proofs.Common.{◌≡◌, ◌↔◌, ℕ, ◌+◌, ◌*◌, ◌-◌, ◌≤◌, ◌<◌, List, [], ◌∷◌, length, map, refl, sym, ap, ◌∙◌, subst, arith}
+use Rattle.std.proofs.Common.{◌≡◌, ◌↔◌, ℕ, ◌+◌, ◌*◌, ◌≤◌, ◌<◌, List, [], ◌∷◌, refl, sym, ◌∙◌, subst, arith}
 use Rattle.std.specs.Prelude.{Result, Ok, Err, IfOk}
-use Rattle.std.specs.List.{All, Contains}
+use Rattle.std.specs.List.{All}
 use Rattle.std.proofs.lemmas.List.Elements.{All-nil, All-cons, All-head, All-tail, All-contains}
 use Rattle.monomials.specs.Mono.{Monomial, total_degree}
 use Rattle.prime_field.specs.Primes.{IsPrime}
@@ -11,7 +11,6 @@ use Rattle.polys.specs.Ideal.{InIdeal, combination}
 use Rattle.polys.specs.Poly.{Polynomial, IsPlain}
 use Rattle.polys.specs.Reduced.{IsReducedBasis}
 use Rattle.polys.specs.Terms.{EachMono, IsPoly, IsMonic, degree_of, mul}
-use Rattle.polys.proofs.Affine.{poly_mul}
 use Rattle.polys.proofs.Degrees.{AtMost, degree_le}
 use Rattle.polys.proofs.Each.{every_add, every_mul, every_normal, every_zip}
 use Rattle.polys.proofs.Ideals.{in_head, in_more, in_generator, in_larger, in_poly}
@@ -25,16 +24,16 @@ use Rattle.homogenising.specs.Laws.{IsHomogeneousPoly}
 use Rattle.homogenising.proofs.Images.{image, every_image}
 use Rattle.homogenising.proofs.Monomials.{lower, degree_lower}
 use Rattle.denominator_module.specs.Laws.{AreGiven, IsModuleBasis, Generates}
-use Rattle.denominator_module.specs.Module.{module_of, second, sum_members, colon_members, InColon, IsColonBasis, IsDeepDenominator}
-use Rattle.denominator_module.proofs.Components.{every_second, lowered}
+use Rattle.denominator_module.specs.Module.{module_of, second, sum_members, colon_members, InColon, IsDeepDenominator}
+use Rattle.denominator_module.proofs.Components.{every_second}
 use Rattle.denominator_module.proofs.Firsts.{all_from, lower_all}
 use Rattle.denominator_module.proofs.Pairs.{homogeneous_gs}
-use Rattle.denominator_module.proofs.Seconds.{seconds_of, colons_are, all_seconds, one_of}
+use Rattle.denominator_module.proofs.Seconds.{seconds_of, colons_are, all_seconds}
 use Rattle.denominator_module.proofs.Stated.{parts_law}
 use Rattle.module_basis.specs.declared.gens.Gens.{Gens}
-use Rattle.module_basis.specs.Basis.{IsGradedBasis, IsOfOneRing, HaveOneSpan, AreDeep, IsAffineBasisOf, AreStandard}
-use Rattle.module_basis.specs.Gens.{IsHomogeneousOver, term_lists}
-use Rattle.lift_colon.specs.Lifted.{LiftedData, IsLifted, HasModule}
+use Rattle.module_basis.specs.Basis.{AreOverOneRing, IsLoweredBasis, AreStandard}
+use Rattle.module_basis.specs.Gens.{AreGens, IsHomogeneousOver, term_lists}
+use Rattle.lift_colon.specs.Lifted.{IsLifted, HasModule}
 use Rattle.lift_colon.proofs.Vectors.{given, polys, all_at}
 
 -- ---- lists of polynomials of the program
@@ -67,9 +66,9 @@ basis_for p n C D qs e h =
 -- ---- over a graded basis of the module of a denominator
 
 module _ (p n : ℕ) (prime : IsPrime p) (six : n ≤ 6) (generators : List Polynomial) (d : Polynomial) (go : All (IsOver p n) generators) (do_ : IsOver p n d) (m : Gens)
-    (known : IsGradedBasis m) (ep : m.prime ≡ p) (en : m.variables ≡ n) (es : m.shift ≡ degree_of d.terms)
+    (known : AreGens m × IsReduced m.prime m.variables m.shift (term_lists m.vectors)) (ep : m.prime ≡ p) (en : m.variables ≡ n) (es : m.shift ≡ degree_of d.terms)
     (span : SpanOneModule p n (module_of d.terms (term_lists generators)) (term_lists m.vectors))
-    (low : All (λ f. degree_at m.shift (lead_mono f) ≤ 1000) (term_lists m.vectors)) where
+    (low : All (λ f. degree_at (degree_of d.terms) (lead_mono f) ≤ 1000) (term_lists m.vectors)) where
   pos : 0 < p
   pos = let h = prime.0 in omega arith
 
@@ -87,16 +86,16 @@ module _ (p n : ℕ) (prime : IsPrime p) (six : n ≤ 6) (generators : List Poly
 
   reduced : IsReduced p n (degree_of d.terms) (term_lists m.vectors)
   reduced =
-      subst (λ x. IsReduced p n x (term_lists m.vectors)) es (subst (λ x. IsReduced p x m.shift (term_lists m.vectors)) en (subst (λ x. IsReduced x m.variables m.shift (term_lists m.vectors)) ep known.reduced))
+      subst (λ x. IsReduced p n x (term_lists m.vectors)) es (subst (λ x. IsReduced p x m.shift (term_lists m.vectors)) en (subst (λ x. IsReduced x m.variables m.shift (term_lists m.vectors)) ep known.1))
 
   pub mb : IsModuleBasis p n d.terms (term_lists generators) (term_lists m.vectors)
   mb = record { vectors = reduced.vectors; monic = reduced.monic; same = span; all_leads = reduced.all_leads }
 
   pub vectors_over : All (IsHomogeneousOver p n (degree_of d.terms)) m.vectors
-  vectors_over = all_at m.prime p m.variables n m.shift (degree_of d.terms) m.vectors ep en es known.gens.vectors
+  vectors_over = all_at m.prime p m.variables n m.shift (degree_of d.terms) m.vectors ep en es known.0.vectors
 
   pub low_at : All (λ f. degree_at (degree_of d.terms) (lead_mono f) ≤ 1000) (term_lists m.vectors)
-  low_at = subst (λ x. All (λ f. degree_at x (lead_mono f) ≤ 1000) (term_lists m.vectors)) es low
+  low_at = low
 
   pub sum_standard : (qs : List Polynomial) → All (λ f. f.prime ≡ p) qs → term_lists qs ≡ sum_members p (term_lists m.vectors) → AreStandard p n qs
   sum_standard qs a e =
@@ -191,7 +190,7 @@ module _ (p n : ℕ) (prime : IsPrime p) (six : n ≤ 6) (generators : List Poly
             (parts_law.colon p n d.terms (term_lists generators) (term_lists m.vectors) ga mb) (subst (λ w. IsReducedBasis p n (InIdeal p n w) (term_lists colon)) ec bc));
         low = lc;
       },
-      record { generators = term_lists generators; given = ga; same = same_ideal; prime = ep; variables = en; shift = es; basis = known; span = span; low = low_at },
+      record { generators = term_lists generators; given = ga; same = same_ideal; prime = ep; variables = en; shift = es; gens = known.0; reduced = known.1; span = span; low = low_at },
     )
 
 -- ---- a module spanned by polynomials has a basis of polynomials
@@ -217,8 +216,8 @@ deep_same p q n m s t limit u v e f g h x =
     subst (λ w. IsDeep q m t w limit) h (subst (λ w. IsDeep q m w u limit) g (subst (λ w. IsDeep q w s u limit) f (subst (λ w. IsDeep w n s u limit) e x)))
 
 module _ (p n : ℕ) (prime : IsPrime p) (six : n ≤ 6) (ideal : List Polynomial) (io : All (IsOver p n) ideal) (gens b : Gens)
-    (ring : (gens.prime ≡ p) × (gens.variables ≡ n) × (gens.shift ≡ 0)) (lists : term_lists gens.vectors ≡ all_homogenised (term_lists ideal)) (same : IsOfOneRing b gens)
-    (known : IsGradedBasis b) (span : HaveOneSpan gens b) where
+    (ring : (gens.prime ≡ p) × (gens.variables ≡ n) × (gens.shift ≡ 0)) (lists : term_lists gens.vectors ≡ all_homogenised (term_lists ideal)) (same : AreOverOneRing gens b)
+    (known : IsReduced b.prime b.variables b.shift (term_lists b.vectors)) (span : SpanOneModule gens.prime gens.variables (term_lists gens.vectors) (term_lists b.vectors)) where
   ga' : AreGiven p n [] (term_lists ideal)
   ga' = record { prime = prime; six = six; denominator = (let h = prime.0 in record { canonical = tt; affine = tt }); generators = polys p n six prime ideal io }
 
@@ -231,7 +230,7 @@ module _ (p n : ℕ) (prime : IsPrime p) (six : n ≤ 6) (ideal : List Polynomia
   pub plain_vectors : All (EachMono IsPlain) (term_lists gens.vectors) → All (EachMono IsPlain) (term_lists b.vectors)
   plain_vectors a =
       plain_basis gens.prime gens.variables (term_lists gens.vectors) (term_lists b.vectors) (let h = prime.0 in let e = ring.0 in omega arith) a
-      (subst (λ x. All (IsGradedVector x gens.variables) (term_lists b.vectors)) same.prime (subst (λ x. All (IsGradedVector b.prime x) (term_lists b.vectors)) same.variables (vectors (term_lists b.vectors) known.reduced.vectors)))
+      (subst (λ x. All (IsGradedVector x gens.variables) (term_lists b.vectors)) same.prime (subst (λ x. All (IsGradedVector b.prime x) (term_lists b.vectors)) same.variables (vectors (term_lists b.vectors) known.vectors)))
       span
     where
       vectors : (fs : List (List Term)) → All (IsGenerator b.prime b.variables b.shift) fs → All (IsGradedVector b.prime b.variables) fs
@@ -239,7 +238,7 @@ module _ (p n : ℕ) (prime : IsPrime p) (six : n ≤ 6) (ideal : List Polynomia
       vectors (f ∷ fs) a =
           All-cons (IsGradedVector b.prime b.variables) f fs (All-head (IsGenerator b.prime b.variables b.shift) f fs a).vector (vectors fs (All-tail (IsGenerator b.prime b.variables b.shift) f fs a))
 
-  pub ideal_basis : (ds : List (List Term)) → IsAffineBasisOf b ds → IsReducedBasis p n (InIdeal p n (term_lists ideal)) ds
+  pub ideal_basis : (ds : List (List Term)) → IsLoweredBasis b ds → IsReducedBasis p n (InIdeal p n (term_lists ideal)) ds
   ideal_basis ds h =
       let ep = same.prime ∙ ring.0 in
       let en = same.variables ∙ ring.1 in
@@ -250,21 +249,21 @@ module _ (p n : ℕ) (prime : IsPrime p) (six : n ≤ 6) (ideal : List Polynomia
       (subst (λ x. IsReducedBasis p x (InIdeal p x (all_dehomogenised p (all_homogenised (term_lists ideal)))) ds) en
       (subst (λ x. IsReducedBasis x b.variables (InIdeal x b.variables (all_dehomogenised x (all_homogenised (term_lists ideal)))) ds) ep r))
 
-  pub deep_ideal : (limit : ℕ) → AreDeep gens limit ↔ IsDeep p n 0 (all_homogenised (term_lists ideal)) limit
+  pub deep_ideal : (limit : ℕ) → IsDeep gens.prime gens.variables gens.shift (term_lists gens.vectors) limit ↔ IsDeep p n 0 (all_homogenised (term_lists ideal)) limit
   deep_ideal limit = (
     deep_same gens.prime p gens.variables n gens.shift 0 limit (term_lists gens.vectors) (all_homogenised (term_lists ideal)) ring.0 ring.1 ring.2 lists,
     deep_same p gens.prime n gens.variables 0 gens.shift limit (all_homogenised (term_lists ideal)) (term_lists gens.vectors) (sym ring.0) (sym ring.1) (sym ring.2) (sym lists),
   )
 
 pub deep_pairs : (p n : ℕ) (d : Polynomial) (ideal : List Polynomial) (pairs : Gens) (limit : ℕ) → pairs.prime ≡ p → pairs.variables ≡ n → pairs.shift ≡ degree_of d.terms
-    → term_lists pairs.vectors ≡ module_of d.terms (term_lists ideal) → AreDeep pairs limit ↔ IsDeepDenominator p n d.terms (term_lists ideal) limit
+    → term_lists pairs.vectors ≡ module_of d.terms (term_lists ideal) → IsDeep pairs.prime pairs.variables pairs.shift (term_lists pairs.vectors) limit ↔ IsDeepDenominator p n d.terms (term_lists ideal) limit
 deep_pairs p n d ideal pairs limit ep en es ev = (
   deep_same pairs.prime p pairs.variables n pairs.shift (degree_of d.terms) limit (term_lists pairs.vectors) (module_of d.terms (term_lists ideal)) ep en es ev,
   deep_same p pairs.prime n pairs.variables (degree_of d.terms) pairs.shift limit (module_of d.terms (term_lists ideal)) (term_lists pairs.vectors) (sym ep) (sym en) (sym es) (sym ev),
 )
 
 pub span_pairs : (p n : ℕ) (d : Polynomial) (ideal : List Polynomial) (pairs b : Gens) → pairs.prime ≡ p → pairs.variables ≡ n → term_lists pairs.vectors ≡ module_of d.terms (term_lists ideal)
-    → HaveOneSpan pairs b → SpanOneModule p n (module_of d.terms (term_lists ideal)) (term_lists b.vectors)
+    → SpanOneModule pairs.prime pairs.variables (term_lists pairs.vectors) (term_lists b.vectors) → SpanOneModule p n (module_of d.terms (term_lists ideal)) (term_lists b.vectors)
 span_pairs p n d ideal pairs b ep en ev h =
     subst (λ w. SpanOneModule p n w (term_lists b.vectors)) ev
     (subst (λ x. SpanOneModule p x (term_lists pairs.vectors) (term_lists b.vectors)) en

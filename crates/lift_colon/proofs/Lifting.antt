@@ -1,16 +1,16 @@
 -- What a lift owes.
-use Rattle.std.proofs.Common.{◌≡◌, ◌≢◌, ◌↔◌, Bool, true, false, ℕ, ◌+◌, ◌*◌, ◌-◌, ◌≤◌, ◌<◌, List, [], ◌∷◌, ◌++◌, length, map, refl, sym, ap, ◌∙◌, subst, arith}
+use Rattle.std.proofs.Common.{◌≡◌, ◌≢◌, ◌↔◌, true, false, ℕ, ◌+◌, ◌-◌, ◌≤◌, ◌<◌, List, [], ◌∷◌, refl, sym, ap, ◌∙◌, subst, arith}
 use Rattle.std.specs.Option.{is_some}
-use Rattle.std.specs.List.{All, Contains}
-use Rattle.std.proofs.lemmas.List.Elements.{All-nil, All-cons, All-head, All-tail}
-use Rattle.monomials.specs.Mono.{Monomial}
+use Rattle.std.specs.Prelude.{Result, IfOk}
+use Rattle.std.specs.List.{All}
+use Rattle.std.proofs.lemmas.List.Elements.{All-cons, All-head, All-tail}
 use Rattle.polys.specs.declared.term.Term.{Term}
 use Rattle.polys.specs.Curve.{IsOver}
-use Rattle.polys.specs.Ideal.{InIdeal, Regular}
+use Rattle.polys.specs.Ideal.{HasDim, HasInfiniteDim, InIdeal, Regular, Spans, number_combination}
 use Rattle.polys.specs.Poly.{Polynomial, IsPlain}
 use Rattle.polys.specs.Terms.{EachMono, IsPoly, lead, degree_of, scaled, sub, mul, multiple}
 use Rattle.polys.proofs.Each.{every_more, every_zip}
-use Rattle.polys.proofs.Ideals.{in_head, in_more, in_generator, in_larger}
+use Rattle.polys.proofs.Ideals.{in_head, in_more, in_generator, in_larger, in_poly}
 use Rattle.polys.proofs.Units.{canonical_same}
 use Rattle.polys.proofs.Weights.{is_canonical, normal_canon}
 use Rattle.graded_modules.specs.Bases.{IsReduced, IsNormalForm}
@@ -18,16 +18,18 @@ use Rattle.graded_modules.specs.Vector.{IsGradedVector, IsGenerator, HasDegree, 
 use Rattle.homogenising.specs.Homogenised.{homogenised_to, dehomogenised}
 use Rattle.homogenising.specs.Laws.{IsHomogeneousPoly}
 use Rattle.homogenising.proofs.Lifted.{Fits, fits, lifted, degrees_lifted}
-use Rattle.denominator_module.specs.Laws.{IsModuleBasis, IsLifting}
-use Rattle.denominator_module.specs.Module.{first, second, quotient_of}
+use Rattle.denominator_module.specs.Laws.{IsLifting}
+use Rattle.denominator_module.specs.Module.{first, second}
 use Rattle.denominator_module.proofs.Colons.{regular_law}
 use Rattle.denominator_module.proofs.Firsts.{all_from}
 use Rattle.denominator_module.proofs.Lifts.{lift_law}
 use Rattle.denominator_module.proofs.Pairs.{plain_degree}
 use Rattle.denominator_module.proofs.Seconds.{second_homogeneous}
 use Rattle.module_basis.specs.declared.gens.Gens.{Gens}
-use Rattle.module_basis.specs.Basis.{IsGradedBasis}
 use Rattle.module_basis.specs.Gens.{term_lists}
+use Rattle.standard_monomials.specs.Finding.{HasDimAbove}
+use Rattle.standard_monomials.specs.declared.finding.Dimension.{Dimension}
+use Rattle.lift_colon.proofs.Bases.{ok_more}
 use Rattle.lift_colon.specs.Lifted.{LiftedData, IsLifted, HasModule, IsLift}
 
 module _ (l : LiftedData) (m : Gens) (h : IsLifted l) (hm : HasModule l m) where
@@ -99,7 +101,7 @@ module _ (l : LiftedData) (m : Gens) (h : IsLifted l) (hm : HasModule l m) where
       reduced : IsReduced l.prime l.variables (degree_of l.denominator.terms) (term_lists m.vectors)
       reduced =
           subst (λ x. IsReduced p n x (term_lists m.vectors)) hm.shift
-          (subst (λ x. IsReduced p x m.shift (term_lists m.vectors)) hm.variables (subst (λ x. IsReduced x m.variables m.shift (term_lists m.vectors)) hm.prime hm.basis.reduced))
+          (subst (λ x. IsReduced p x m.shift (term_lists m.vectors)) hm.variables (subst (λ x. IsReduced x m.variables m.shift (term_lists m.vectors)) hm.prime hm.reduced))
 
       lifting : IsLifting l.prime l.variables l.denominator.terms hm.generators (term_lists m.vectors) 1000 g r
       lifting =
@@ -163,3 +165,88 @@ no_lead (t ∷ f) e = absurd (cc)
 
 pub some_lead : (f : List Term) → is_some (lead f) ≡ true → f ≡ [] → ⊥
 some_lead f e z = let q : is_some (lead []) ≡ true = sym (ap (λ g. is_some (lead g)) z) ∙ e in absurd (cc)
+
+-- ---- dimensions
+
+-- what spans up to an ideal spans up to a larger one
+spans : (p n : ℕ) (gs hs : List (List Term)) → ((f : List Term) → InIdeal p n gs f → InIdeal p n hs f) → (us : List (List Term)) → Spans p n gs us → Spans p n hs us
+spans p n gs hs to us s =
+    record {
+      polys = s.polys;
+      each = λ f a.
+          let x = s.each f a in record {
+            residues = x.residues;
+            below = x.below;
+            as_many = x.as_many;
+            close = to (sub p f (number_combination p x.residues us)) x.close;
+          };
+    }
+
+dim : (p n : ℕ) (gs hs : List (List Term)) → ((f : List Term) → InIdeal p n gs f → InIdeal p n hs f) → ((f : List Term) → InIdeal p n hs f → InIdeal p n gs f) → (N : ℕ) → HasDim p n gs N → HasDim p n hs N
+dim p n gs hs to back N h =
+    record { basis = h.basis; as_many = h.as_many; spans = spans p n gs hs to h.basis h.spans; least = λ us l w. h.least us l (spans p n hs gs back us w) }
+
+module _ (l : LiftedData) (h : IsLifted l) where
+  positive : 0 < l.prime
+  positive = let q = h.prime.0 in omega arith
+
+  to : (f : List Term) → InIdeal l.prime l.variables (term_lists l.sum) f → InIdeal l.prime l.variables (l.denominator.terms ∷ term_lists l.ideal) f
+  to f r = (h.sum.exact f (in_poly l.prime l.variables (term_lists l.sum) f positive h.sum.reduced.polys r)).0 r
+
+  back : (f : List Term) → InIdeal l.prime l.variables (l.denominator.terms ∷ term_lists l.ideal) f → InIdeal l.prime l.variables (term_lists l.sum) f
+  back f r =
+      (h.sum.exact f
+      (in_poly l.prime l.variables (l.denominator.terms ∷ term_lists l.ideal) f positive
+      (All-cons (IsPoly l.prime l.variables) l.denominator.terms (term_lists l.ideal) h.denominator.poly h.ideal.reduced.polys) r)).1 r
+
+  pub has_dim : (N : ℕ) → HasDim l.prime l.variables (term_lists l.sum) N ↔ HasDim l.prime l.variables (l.denominator.terms ∷ term_lists l.ideal) N
+  has_dim N = (
+    dim l.prime l.variables (term_lists l.sum) (l.denominator.terms ∷ term_lists l.ideal) to back N,
+    dim l.prime l.variables (l.denominator.terms ∷ term_lists l.ideal) (term_lists l.sum) back to N,
+  )
+
+  pub has_infinite_dim : HasInfiniteDim l.prime l.variables (term_lists l.sum) ↔ HasInfiniteDim l.prime l.variables (l.denominator.terms ∷ term_lists l.ideal)
+  has_infinite_dim = (
+    λ k us s. k us (spans l.prime l.variables (l.denominator.terms ∷ term_lists l.ideal) (term_lists l.sum) back us s),
+    λ k us s. k us (spans l.prime l.variables (term_lists l.sum) (l.denominator.terms ∷ term_lists l.ideal) to us s),
+  )
+
+  -- what the answer means, of the basis and of the ideal
+  module _ (limit : ℕ) (a : Dimension) where
+    pub finite : ((N : ℕ) → (a ≡ Dimension.Finite N) ↔ ((N ≤ limit) × HasDim l.prime l.variables (term_lists l.sum) N))
+        → (N : ℕ) → (a ≡ Dimension.Finite N) ↔ ((N ≤ limit) × HasDim l.prime l.variables (l.denominator.terms ∷ term_lists l.ideal) N)
+    finite k N = (λ e. (let x = (k N).0 e in (x.0, (has_dim N).0 x.1)), λ x. (k N).1 (x.0, (has_dim N).1 x.1))
+
+    pub wide : (a ≡ Dimension.Wide) ↔ HasDimAbove l.prime l.variables (term_lists l.sum) limit
+        → (a ≡ Dimension.Wide) ↔ ((N : ℕ) × (limit < N) × HasDim l.prime l.variables (l.denominator.terms ∷ term_lists l.ideal) N)
+    wide k = (λ e. (let x = k.0 e in (x.0, x.1, (has_dim x.0).0 x.2)), λ x. k.1 (x.0, x.1, (has_dim x.0).1 x.2))
+
+    pub infinite : (a ≡ Dimension.Infinite) ↔ HasInfiniteDim l.prime l.variables (term_lists l.sum)
+        → (a ≡ Dimension.Infinite) ↔ HasInfiniteDim l.prime l.variables (l.denominator.terms ∷ term_lists l.ideal)
+    infinite k = (λ e. has_infinite_dim.0 (k.0 e), λ x. k.1 (has_infinite_dim.1 x))
+
+  -- and of the answer of a call
+  module _ (p n limit : ℕ) (basis : List Polynomial) (ep : p ≡ l.prime) (en : n ≡ l.variables) (eb : basis ≡ l.sum) {E : Type 0} (r : Result Dimension E) where
+    same : (P : ℕ → ℕ → List (List Term) → Dimension → Type 0) → IfOk r (P p n (term_lists basis)) → IfOk r (P l.prime l.variables (term_lists l.sum))
+    same P k = subst (λ w. IfOk r (P l.prime l.variables (term_lists w))) eb (subst (λ w. IfOk r (P l.prime w (term_lists basis))) en (subst (λ w. IfOk r (P w n (term_lists basis))) ep k))
+
+    pub call_finite : IfOk r (λ a. (N : ℕ) → (a ≡ Dimension.Finite N) ↔ ((N ≤ limit) × HasDim p n (term_lists basis) N))
+        → IfOk r (λ a. (N : ℕ) → (a ≡ Dimension.Finite N) ↔ ((N ≤ limit) × HasDim l.prime l.variables (l.denominator.terms ∷ term_lists l.ideal) N))
+    call_finite k =
+        ok_more r (λ a. (N : ℕ) → (a ≡ Dimension.Finite N) ↔ ((N ≤ limit) × HasDim l.prime l.variables (term_lists l.sum) N))
+        (λ a. (N : ℕ) → (a ≡ Dimension.Finite N) ↔ ((N ≤ limit) × HasDim l.prime l.variables (l.denominator.terms ∷ term_lists l.ideal) N)) (λ a x. finite limit a x)
+        (same (λ q m gs a. (N : ℕ) → (a ≡ Dimension.Finite N) ↔ ((N ≤ limit) × HasDim q m gs N)) k)
+
+    pub call_wide : IfOk r (λ a. (a ≡ Dimension.Wide) ↔ HasDimAbove p n (term_lists basis) limit)
+        → IfOk r (λ a. (a ≡ Dimension.Wide) ↔ ((N : ℕ) × (limit < N) × HasDim l.prime l.variables (l.denominator.terms ∷ term_lists l.ideal) N))
+    call_wide k =
+        ok_more r (λ a. (a ≡ Dimension.Wide) ↔ HasDimAbove l.prime l.variables (term_lists l.sum) limit)
+        (λ a. (a ≡ Dimension.Wide) ↔ ((N : ℕ) × (limit < N) × HasDim l.prime l.variables (l.denominator.terms ∷ term_lists l.ideal) N)) (λ a x. wide limit a x)
+        (same (λ q m gs a. (a ≡ Dimension.Wide) ↔ HasDimAbove q m gs limit) k)
+
+    pub call_infinite : IfOk r (λ a. (a ≡ Dimension.Infinite) ↔ HasInfiniteDim p n (term_lists basis))
+        → IfOk r (λ a. (a ≡ Dimension.Infinite) ↔ HasInfiniteDim l.prime l.variables (l.denominator.terms ∷ term_lists l.ideal))
+    call_infinite k =
+        ok_more r (λ a. (a ≡ Dimension.Infinite) ↔ HasInfiniteDim l.prime l.variables (term_lists l.sum))
+        (λ a. (a ≡ Dimension.Infinite) ↔ HasInfiniteDim l.prime l.variables (l.denominator.terms ∷ term_lists l.ideal)) (λ a x. infinite limit a x)
+        (same (λ q m gs a. (a ≡ Dimension.Infinite) ↔ HasInfiniteDim q m gs) k)

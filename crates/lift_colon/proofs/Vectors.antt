@@ -1,13 +1,13 @@
 -- What the calls on the module of a denominator owe.
-use Rattle.std.proofs.Common.{◌≡◌, ℕ, ◌≤◌, ◌<◌, List, [], ◌∷◌, ◌++◌, map, refl, sym, ap, ◌∙◌, subst, arith}
+use Rattle.std.proofs.Common.{◌≡◌, ℕ, ◌≤◌, List, [], ◌∷◌, refl, sym, subst, arith}
 use Rattle.std.specs.List.{All}
 use Rattle.std.proofs.lemmas.List.Elements.{All-nil, All-cons, All-head, All-tail}
-use Rattle.monomials.specs.Mono.{Monomial, IsMono}
+use Rattle.monomials.specs.Mono.{IsMono}
 use Rattle.prime_field.specs.Primes.{IsPrime}
 use Rattle.polys.specs.declared.term.Term.{Term}
 use Rattle.polys.specs.Curve.{IsOver}
 use Rattle.polys.specs.Poly.{Polynomial, IsVector}
-use Rattle.polys.specs.Terms.{EachMono, IsPoly, degree_of}
+use Rattle.polys.specs.Terms.{IsPoly, degree_of}
 use Rattle.polys.proofs.Degrees.{AtMost, degree_le}
 use Rattle.polys.proofs.Each.{every_more, every_append}
 use Rattle.graded_modules.specs.Vector.{IsGenerator}
@@ -16,7 +16,7 @@ use Rattle.homogenising.proofs.Terms.{lifted_vector}
 use Rattle.denominator_module.specs.Laws.{AreGiven}
 use Rattle.denominator_module.specs.Module.{with_unit, module_of}
 use Rattle.denominator_module.proofs.Pairs.{second_mono, unit_vector, module_generators}
-use Rattle.module_basis.specs.Gens.{IsHomogeneousOver, AreGens, term_lists}
+use Rattle.module_basis.specs.Gens.{IsHomogeneousOver, term_lists}
 
 pub low_degree : (p : ℕ) (f : List Term) → IsVector p f → degree_of f ≤ 60000
 low_degree p f v = degree_le 60000 f (every_more IsMono (AtMost 60000) f (λ m x. x.bounded) v.monos)

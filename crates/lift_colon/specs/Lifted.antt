@@ -8,15 +8,14 @@ use Rattle.polys.specs.Ideal.{InIdeal}
 use Rattle.polys.specs.Poly.{Polynomial}
 use Rattle.polys.specs.Reduced.{IsReducedBasis}
 use Rattle.polys.specs.Terms.{IsPoly, degree_of, sub, mul}
-use Rattle.graded_modules.specs.Bases.{SpanOneModule}
+use Rattle.graded_modules.specs.Bases.{IsReduced, SpanOneModule}
 use Rattle.graded_modules.specs.Deep.{IsDeep}
 use Rattle.graded_modules.specs.Vector.{degree_at, lead_mono}
 use Rattle.homogenising.specs.Homogenised.{all_homogenised}
 use Rattle.denominator_module.specs.Laws.{AreGiven}
 use Rattle.denominator_module.specs.Module.{module_of, IsDeepDenominator, IsColonBasis}
 use Rattle.module_basis.specs.declared.gens.Gens.{Gens}
-use Rattle.module_basis.specs.Basis.{IsGradedBasis}
-use Rattle.module_basis.specs.Gens.{term_lists}
+use Rattle.module_basis.specs.Gens.{AreGens, term_lists}
 
 -- the ideal by its reduced basis, the denominator, and the reduced bases of their sum and of the colon ideal
 pub record LiftedData : Type 0 where
@@ -49,7 +48,8 @@ pub record HasModule (l : LiftedData) (m : Gens) : Type 0 where
   pub prime : m.prime ≡ l.prime
   pub variables : m.variables ≡ l.variables
   pub shift : m.shift ≡ degree_of l.denominator.terms
-  pub basis : IsGradedBasis m
+  pub gens : AreGens m
+  pub reduced : IsReduced m.prime m.variables m.shift (term_lists m.vectors)
   pub span : SpanOneModule l.prime l.variables (module_of l.denominator.terms generators) (term_lists m.vectors)
   pub low : All (λ f. degree_at (degree_of l.denominator.terms) (lead_mono f) ≤ 1000) (term_lists m.vectors)
 

@@ -5,3 +5,4 @@ mod lifted;
 mod parts;
 
 pub use lifted::Lifted;
+pub use standard_monomials::Dimension;

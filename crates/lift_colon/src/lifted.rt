@@ -1,13 +1,13 @@
 // An ideal and a denominator with the bases that decide about them.
-ghost use Rattle.std.specs.Prelude.{◌≡◌, ◌≤◌, ◌+◌, ◌↔◌, ◌∷◌, All, IfOk, IfErr, IsTrue, IsNone, IfSome};
+ghost use Rattle.std.specs.Prelude.{◌≡◌, ℕ, ◌<◌, ◌≤◌, ◌+◌, ◌↔◌, ◌∷◌, All, IfOk, IfErr, IsTrue, IsNone, IfSome};
 ghost use Rattle.lift_colon.specs.Lifted.{IsLifted, IsDeepWith, IsLift};
-ghost use Rattle.module_basis.specs.Basis.{HaveOneSpan, HasLeadsUpTo};
 ghost use Rattle.module_basis.specs.Gens.{term_lists};
 ghost use Rattle.module_basis.specs.declared.gens.BasisStop.TheVariants.{Deep};
 ghost use Rattle.denominator_module.specs.Module.{module_of, IsDeepDenominator};
 ghost use Rattle.graded_modules.specs.Bases.{SpanOneModule};
+ghost use Rattle.graded_modules.specs.Vector.{degree_at, lead_mono};
 ghost use Rattle.polys.specs.Curve.{IsOver};
-ghost use Rattle.polys.specs.Ideal.{InIdeal, Regular};
+ghost use Rattle.polys.specs.Ideal.{HasDim, HasInfiniteDim, InIdeal, Regular};
 ghost use Rattle.polys.specs.Reduced.{IsReducedBasis};
 ghost use Rattle.polys.specs.Terms.{IsPoly, degree_of};
 ghost use Rattle.prime_field.specs.Primes.{IsPrime};
@@ -19,6 +19,7 @@ use module_basis::{BasisStop, Gens, GradedBasis, graded_basis, interreduced};
 use norm_outside::{List, NoMemory};
 use polys::Poly;
 use prime_field::Prime;
+use standard_monomials::{Dimension, dimension_modulo};
 use std::alloc::Global;
 use std::marker::Model;
 
@@ -68,7 +69,7 @@ fn denominator_basis(
     requires cap { cap ≤ 1000 }
     ensures ring { IfOk result (λ b. (b.prime ≡ prime) × (b.variables ≡ variables) × (b.shift ≡ degree_of d.now.terms)) }
     ensures span { IfOk result (λ b. SpanOneModule prime variables (module_of d.now.terms (term_lists ideal.now)) (term_lists b.vectors)) }
-    ensures low { IfOk result (λ b. HasLeadsUpTo b cap) }
+    ensures low { IfOk result (λ b. All (λ f. degree_at (degree_of d.now.terms) (lead_mono f) ≤ cap) (term_lists b.vectors)) }
     ensures not_deep { IfOk result (λ b. IsDeepDenominator prime variables d.now.terms (term_lists ideal.now) cap → ⊥) }
     ensures deep { IfErr result (λ stop. stop ≡ Deep → IsDeepDenominator prime variables d.now.terms (term_lists ideal.now) cap) }
 {
@@ -95,7 +96,7 @@ fn of_module(
     requires ideal { IsReducedBasis prime variables (InIdeal prime variables (term_lists generators.now)) (term_lists ideal) }
     requires ring { (graded.prime ≡ prime) × (graded.variables ≡ variables) × (graded.shift ≡ degree_of d.now.terms) }
     requires span { SpanOneModule prime variables (module_of d.now.terms (term_lists generators.now)) (term_lists graded.vectors) }
-    requires low { HasLeadsUpTo graded 1000 }
+    requires low { All (λ f. degree_at (degree_of d.now.terms) (lead_mono f) ≤ 1000) (term_lists graded.vectors) }
     ensures data { IfOk result (λ l. (l.prime ≡ prime) × (l.variables ≡ variables) × (l.denominator ≡ d.now) × (l.ideal ≡ ideal)) }
 {
     let vectors = graded.vectors();
@@ -220,6 +221,17 @@ impl Lifted {
         ensures { IfOk result (λ yes. IsTrue yes ↔ Regular self.now.prime self.now.variables (term_lists self.now.ideal) self.now.denominator.terms) }
     {
         Ok(are_same(self.ideal.as_slice(), self.colon.as_slice()))
+    }
+
+    /// The dimension of the polynomials modulo I + (d), up to the limit. It is the number of the standard monomials of the
+    /// reduced basis of I + (d).
+    pub fn dimension(&self, alloc: Global, limit: u32) -> Result<Dimension, NoMemory>
+        requires { limit ≤ 60000 }
+        ensures finite { IfOk result (λ a. (N : ℕ) → (a ≡ Dimension.Finite N) ↔ ((N ≤ limit) × HasDim self.now.prime self.now.variables (self.now.denominator.terms ∷ term_lists self.now.ideal) N)) }
+        ensures wide { IfOk result (λ a. (a ≡ Dimension.Wide) ↔ ((N : ℕ) × (limit < N) × HasDim self.now.prime self.now.variables (self.now.denominator.terms ∷ term_lists self.now.ideal) N)) }
+        ensures infinite { IfOk result (λ a. (a ≡ Dimension.Infinite) ↔ HasInfiniteDim self.now.prime self.now.variables (self.now.denominator.terms ∷ term_lists self.now.ideal)) }
+    {
+        dimension_modulo(alloc, self.prime, self.variables, self.sum_basis(), limit)
     }
 }
 

@@ -12,7 +12,7 @@ pub dehomogenised-requires : goal.dehomogenised-requires
 dehomogenised-requires c =
     record {
       plain = plain_vectors c.args.prime c.args.variables (subst IsPrime c.get-prime.ensures.value c.get-prime.ensures.prime) c.requires.six_variables c.args.ideal.now c.requires.ideal c.in_ok-gens.gens c.in_ok-graded_basis.field-0
-          c.in_ok-gens.ensures.ring c.in_ok-gens.ensures.vectors c.in_ok-graded_basis.ensures.ring c.in_ok-graded_basis.ensures.reduced c.in_ok-graded_basis.ensures.span c.in_ok-gens.ensures.plain;
+          c.in_ok-gens.ensures.ring c.in_ok-gens.ensures.vectors c.in_ok-graded_basis.ensures.same_ring c.in_ok-graded_basis.ensures.reduced.reduced c.in_ok-graded_basis.ensures.one_module c.in_ok-gens.ensures.plain;
     }
 
 pub denominator_basis-requires-clause-room : goal.denominator_basis-requires-clause-room
@@ -21,13 +21,13 @@ denominator_basis-requires-clause-room c = low_degree c.args.d.now.prime c.args.
 pub of_module-requires-clause-ideal : goal.of_module-requires-clause-ideal
 of_module-requires-clause-ideal c =
     ideal_basis c.args.prime c.args.variables (subst IsPrime c.get-prime.ensures.value c.get-prime.ensures.prime) c.requires.six_variables c.args.ideal.now c.requires.ideal c.in_ok-gens.gens c.in_ok-graded_basis.field-0
-    c.in_ok-gens.ensures.ring c.in_ok-gens.ensures.vectors c.in_ok-graded_basis.ensures.ring c.in_ok-graded_basis.ensures.reduced c.in_ok-graded_basis.ensures.span (term_lists c.in_ok-basis.basis) c.in_ok-basis.ensures.exact
+    c.in_ok-gens.ensures.ring c.in_ok-gens.ensures.vectors c.in_ok-graded_basis.ensures.same_ring c.in_ok-graded_basis.ensures.reduced.reduced c.in_ok-graded_basis.ensures.one_module (term_lists c.in_ok-basis.basis) c.in_ok-basis.ensures.basis
 
 pub returns-clause-ideal : goal.returns-clause-ideal
 returns-clause-ideal c =
     subst (λ b. IsReducedBasis c.args.prime c.args.variables (InIdeal c.args.prime c.args.variables (term_lists c.args.ideal.now)) (term_lists b)) (sym c.in_ok-of_module.ensures.data.3)
     (ideal_basis c.args.prime c.args.variables (subst IsPrime c.get-prime.ensures.value c.get-prime.ensures.prime) c.requires.six_variables c.args.ideal.now c.requires.ideal c.in_ok-gens.gens c.in_ok-graded_basis.field-0
-    c.in_ok-gens.ensures.ring c.in_ok-gens.ensures.vectors c.in_ok-graded_basis.ensures.ring c.in_ok-graded_basis.ensures.reduced c.in_ok-graded_basis.ensures.span (term_lists c.in_ok-basis.basis) c.in_ok-basis.ensures.exact)
+    c.in_ok-gens.ensures.ring c.in_ok-gens.ensures.vectors c.in_ok-graded_basis.ensures.same_ring c.in_ok-graded_basis.ensures.reduced.reduced c.in_ok-graded_basis.ensures.one_module (term_lists c.in_ok-basis.basis) c.in_ok-basis.ensures.basis)
 
 pub returns-clause-not_deep : goal.returns-clause-not_deep
 returns-clause-not_deep c = go
@@ -36,5 +36,5 @@ returns-clause-not_deep c = go
     go (inl a) =
         c.in_ok-graded_basis.ensures.not_deep
         ((deep_ideal c.args.prime c.args.variables (subst IsPrime c.get-prime.ensures.value c.get-prime.ensures.prime) c.requires.six_variables c.args.ideal.now c.requires.ideal c.in_ok-gens.gens c.in_ok-graded_basis.field-0
-        c.in_ok-gens.ensures.ring c.in_ok-gens.ensures.vectors c.in_ok-graded_basis.ensures.ring c.in_ok-graded_basis.ensures.reduced c.in_ok-graded_basis.ensures.span c.args.cap).1 a)
+        c.in_ok-gens.ensures.ring c.in_ok-gens.ensures.vectors c.in_ok-graded_basis.ensures.same_ring c.in_ok-graded_basis.ensures.reduced.reduced c.in_ok-graded_basis.ensures.one_module c.args.cap).1 a)
     go (inr a) = c.in_ok-graded.ensures.not_deep a
