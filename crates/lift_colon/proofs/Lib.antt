@@ -1,3 +1,4 @@
+mod Affine
 mod Vectors
 mod Members
 mod Bases

@@ -249,3 +249,6 @@ fn are_same(a: &[Poly], b: &[Poly]) -> bool
     }
     true
 }
+
+#[cfg(test)]
+mod tests;
