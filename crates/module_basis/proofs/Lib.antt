@@ -12,5 +12,6 @@ pub mod Tails
 pub mod Interreducing
 pub mod Reduced
 pub mod Whole
-pub mod Affine
+pub mod Ideals
 pub mod Tested
+pub mod Standard

@@ -1,11 +1,15 @@
 -- The reduced basis of a graded module, as data of the program.
-use Rattle.std.specs.Prelude.{◌≡◌, ℕ, ◌<◌, List, ◌∷◌, All}
+use Rattle.std.specs.Prelude.{◌≡◌, ℕ, ◌<◌, ◌≤◌, List, ◌∷◌, map, All, Contains}
+use Rattle.monomials.specs.Mono.{Monomial}
 use Rattle.polys.specs.declared.term.Term.{Term}
+use Rattle.polys.specs.Curve.{IsOver}
 use Rattle.polys.specs.Poly.{Polynomial}
+use Rattle.polys.specs.Terms.{IsMonic, IsPoly, degree_of, sub}
 use Rattle.homogenising.specs.Homogenised.{with_hom, dehomogenised, all_dehomogenised}
 use Rattle.homogenising.specs.Laws.{IsHomogeneousPoly, HasAffineLeads}
 use Rattle.polys.specs.Ideal.{InIdeal}
 use Rattle.polys.specs.Reduced.{IsReducedBasis}
+use Rattle.graded_modules.specs.Module.{IsLeadMultiple}
 use Rattle.graded_modules.specs.Vector.{degree_at}
 use Rattle.graded_modules.specs.Bases.{IsReduced, SpanOneModule}
 use Rattle.module_basis.specs.declared.gens.Gens.{Gens}
@@ -48,3 +52,16 @@ abbrev pub HasLoweredLeads : Gens → List (List Term) → Type 0
 HasLoweredLeads b ds =
     (gs : List (List Term)) → All (IsHomogeneousPoly b.prime b.variables) gs → SpanOneModule b.prime b.variables gs (term_lists b.vectors)
     → HasAffineLeads b.prime b.variables (all_dehomogenised b.prime gs) ds
+
+-- monic polynomials over the prime in these variables, with all leads of their ideal
+pub record AreStandard (p n : ℕ) (members : List Polynomial) : Type 0 where
+  pub over : All (IsOver p n) members
+  pub monic : All IsMonic (term_lists members)
+  pub leads : HasAffineLeads p n (term_lists members) (term_lists members)
+
+-- r is left of v by the divisors: v - r is in their ideal, and no monomial of r is a multiple of a lead
+pub record IsRemainder (p n : ℕ) (divisors : List (List Term)) (v r : List Term) : Type 0 where
+  pub poly : IsPoly p n r
+  pub difference : InIdeal p n divisors (sub p v r)
+  pub outside : (m : Monomial) → Contains (map (λ t. t.mono) r) m → IsLeadMultiple divisors m → ⊥
+  pub low : degree_of r ≤ degree_of v

@@ -10,7 +10,7 @@ ghost use Rattle.graded_modules.specs.Bases.{SpanOneModule, IsReduced, IsNormalF
 ghost use Rattle.module_basis.specs.declared.gens.BasisStop.TheVariants.{Deep};
 ghost use Rattle.module_basis.specs.Gens.{AreGens, term_lists};
 ghost use Rattle.homogenising.specs.Laws.{IsHomogeneousPoly};
-ghost use Rattle.module_basis.specs.Basis.{AreOverOneRing, IsHigh, lowered_of, lowered, IsLoweredBasis, HasLoweredLeads};
+ghost use Rattle.module_basis.specs.Basis.{IsBasis, AreOverOneRing, IsHigh, lowered_of, lowered, IsLoweredBasis, HasLoweredLeads};
 
 use crate::division::remainder;
 use crate::growing::Growing;
@@ -28,7 +28,7 @@ use std::marker::Model;
 ///
 /// Contracts see the same data as of [`Gens`]. The vectors are monic, their leads rise, and no monomial of one is a
 /// multiple of the lead of another.
-#[derive(Drop)]
+#[derive(Debug, Drop)]
 pub struct GradedBasis {
     prime: Prime,
     variables: u32,
@@ -62,6 +62,7 @@ impl Model for GradedBasis {
 pub fn graded_basis(alloc: Global, gens: &Gens, cap: u32) -> Result<GradedBasis, BasisStop>
     requires gens { AreGens gens.now }
     requires cap { (1 ≤ cap) × (cap ≤ 1000) }
+    ensures reduced { IfOk result (λ basis. IsBasis basis) }
     ensures same_ring { IfOk result (λ basis. AreOverOneRing gens.now basis) }
     ensures one_module { IfOk result (λ basis. SpanOneModule gens.now.prime gens.now.variables (term_lists gens.now.vectors) (term_lists basis.vectors)) }
     ensures not_deep { IfOk result (λ basis. IsDeep gens.now.prime gens.now.variables gens.now.shift (term_lists gens.now.vectors) cap → ⊥) }

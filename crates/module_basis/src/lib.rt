@@ -1,6 +1,7 @@
 //! Reduced bases of graded modules over F_p[x, h], or the answer that the module is deep under a cap.
 #![tactic(auto)]
 
+mod affine;
 mod basis;
 mod division;
 mod gens;
@@ -9,5 +10,6 @@ mod leads;
 mod pairs;
 mod reduction;
 
+pub use affine::{interreduced, remainder};
 pub use basis::{GradedBasis, graded_basis};
 pub use gens::{BasisStop, Gens};

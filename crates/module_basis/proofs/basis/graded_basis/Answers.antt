@@ -33,6 +33,25 @@ invariant_of-result c =
     (subst (λ xs. IsInterreduced gens.prime (term_lists xs) qs) c.deref.ensures.value c.in_ok-vectors.ensures) in
     a.basis
 
+pub returns-clause-reduced : goal.returns-clause-reduced
+returns-clause-reduced c =
+    let gens = c.args.gens.now in
+    let small = c.requires.cap.1 in
+    let qs = c.in_ok-vectors.vectors.items in
+    let g = c.loop-e.growing in
+    let t = c.loop-e-test.false in
+    let end = c.loop-e.auto in
+    let prime = subst IsPrime c.get-modulus.ensures.value c.get-modulus.ensures.prime in
+    let high : HasHighVector gens.shift (term_lists gens.vectors) c.args.cap → ⊥ =
+    λ h.
+    let yes = c.has_high_vector.ensures.1 (subst (λ vs. HasHighVector gens.shift (term_lists vs) c.args.cap) (sym c.as_slice.ensures) h) in
+    let nay = c.if-has_high_vector.false in
+    absurd (cc) in
+    let a : IsAnswer gens c.args.cap qs =
+    answered gens c.requires.gens prime c.args.cap c.loop-e.e small g c.loop-e.invariant.ready (omega arith) c.loop-e.invariant.cap high c.loop-e.invariant.low qs
+    (subst (λ xs. IsInterreduced gens.prime (term_lists xs) qs) c.deref.ensures.value c.in_ok-vectors.ensures) in
+    a.basis
+
 pub returns-clause-one_module : goal.returns-clause-one_module
 returns-clause-one_module c =
     let gens = c.args.gens.now in

@@ -10,7 +10,7 @@ use Rattle.module_basis.specs.Gens.{term_lists}
 use Rattle.module_basis.specs.Division.{IsDivisor}
 use Rattle.module_basis.specs.Reduction.{IsInterreduced}
 use Rattle.module_basis.specs.Basis.{lowered_of, IsLoweredBasis, HasLoweredLeads}
-use Rattle.module_basis.proofs.Affine.{homogeneous, lowered_divisors, lowered_basis, self_spans}
+use Rattle.module_basis.proofs.Ideals.{homogeneous, lowered_divisors, lowered_basis, self_spans}
 use Rattle.module_basis.proofs.basis.GradedBasis.dehomogenised.Goals as goal
 
 pub all_lowered-requires-clause-homogeneous : goal.all_lowered-requires-clause-homogeneous

@@ -4,7 +4,7 @@ use Rattle.std.proofs.lemmas.List.{take_all}
 use Rattle.polys.specs.Poly.{IsPlain}
 use Rattle.polys.specs.Terms.{EachMono}
 use Rattle.module_basis.specs.Gens.{IsHomogeneousOver, term_lists, homogenised_of}
-use Rattle.module_basis.proofs.Affine.{lists_homogenised, homogenised_gens, homogenised_plain}
+use Rattle.module_basis.proofs.Ideals.{lists_homogenised, homogenised_gens, homogenised_plain}
 use Rattle.module_basis.proofs.gens.Gens.homogenised.Goals as goal
 
 pub returns-clause-vectors : goal.returns-clause-vectors

@@ -1,0 +1,274 @@
+-- The bases of the parts of a module are those of the sum and of the colon ideal.
+use Rattle.std.proofs.Common.{◌≡◌, ◌↔◌, ℕ, ◌+◌, ◌*◌, ◌≤◌, ◌<◌, List, [], ◌∷◌, refl, sym, ◌∙◌, subst, arith}
+use Rattle.std.specs.Prelude.{Result, Ok, Err, IfOk}
+use Rattle.std.specs.List.{All}
+use Rattle.std.proofs.lemmas.List.Elements.{All-nil, All-cons, All-head, All-tail, All-contains}
+use Rattle.monomials.specs.Mono.{Monomial, total_degree}
+use Rattle.prime_field.specs.Primes.{IsPrime}
+use Rattle.polys.specs.declared.term.Term.{Term}
+use Rattle.polys.specs.Curve.{IsOver}
+use Rattle.polys.specs.Ideal.{InIdeal, combination}
+use Rattle.polys.specs.Poly.{Polynomial, IsPlain}
+use Rattle.polys.specs.Reduced.{IsReducedBasis}
+use Rattle.polys.specs.Terms.{EachMono, IsPoly, IsMonic, degree_of, mul}
+use Rattle.polys.proofs.Degrees.{AtMost, degree_le}
+use Rattle.polys.proofs.Each.{every_add, every_mul, every_normal, every_zip}
+use Rattle.polys.proofs.Ideals.{in_head, in_more, in_generator, in_larger, in_poly}
+use Rattle.graded_modules.specs.Bases.{IsReduced, SpanOneModule}
+use Rattle.graded_modules.specs.Deep.{IsDeep}
+use Rattle.graded_modules.specs.Module.{InModule, IsLeadMultiple}
+use Rattle.graded_modules.specs.Vector.{IsFactor, IsGraded, IsGradedVector, IsGenerator, degree_at, lead_mono}
+use Rattle.graded_modules.proofs.Members as members
+use Rattle.homogenising.specs.Homogenised.{dehomogenised, all_homogenised, all_dehomogenised}
+use Rattle.homogenising.specs.Laws.{IsHomogeneousPoly}
+use Rattle.homogenising.proofs.Images.{image, every_image}
+use Rattle.homogenising.proofs.Monomials.{lower, degree_lower}
+use Rattle.denominator_module.specs.Laws.{AreGiven, IsModuleBasis, Generates}
+use Rattle.denominator_module.specs.Module.{module_of, second, sum_members, colon_members, InColon, IsDeepDenominator}
+use Rattle.denominator_module.proofs.Components.{every_second}
+use Rattle.denominator_module.proofs.Firsts.{all_from, lower_all}
+use Rattle.denominator_module.proofs.Pairs.{homogeneous_gs}
+use Rattle.denominator_module.proofs.Seconds.{seconds_of, colons_are, all_seconds}
+use Rattle.denominator_module.proofs.Stated.{parts_law}
+use Rattle.module_basis.specs.declared.gens.Gens.{Gens}
+use Rattle.module_basis.specs.Basis.{AreOverOneRing, IsLoweredBasis, AreStandard}
+use Rattle.module_basis.specs.Gens.{AreGens, IsHomogeneousOver, term_lists}
+use Rattle.lift_colon.specs.Lifted.{IsLifted, HasModule}
+use Rattle.lift_colon.proofs.Vectors.{given, polys, all_at}
+
+-- ---- lists of polynomials of the program
+
+module _ (p n : ℕ) where
+  over_by : (qs : List Polynomial) → All (λ f. f.prime ≡ p) qs → All (IsPoly p n) (term_lists qs) → All (IsOver p n) qs
+  over_by [] a b = All-nil (IsOver p n)
+  over_by (q ∷ qs) a b =
+      All-cons (IsOver p n) q qs (record { prime = All-head (λ f. f.prime ≡ p) q qs a; poly = All-head (IsPoly p n) q.terms (term_lists qs) b })
+      (over_by qs (All-tail (λ f. f.prime ≡ p) q qs a) (All-tail (IsPoly p n) q.terms (term_lists qs) b))
+
+  pub standard_by : (C : List Term → Type 0) (qs : List Polynomial) (ms : List (List Term)) → All (λ f. f.prime ≡ p) qs → term_lists qs ≡ ms → Generates p n C ms → AreStandard p n qs
+  standard_by C qs ms a e g =
+      record {
+        over = over_by qs a (subst (All (IsPoly p n)) (sym e) g.polys);
+        monic = subst (All IsMonic) (sym e) g.monic;
+        leads = subst (λ w. (t : Term) (f : List Term) → InIdeal p n w (t ∷ f) → IsLeadMultiple w t.mono) (sym e) g.leads;
+      }
+
+  -- a reduced basis of what a list generates, where the list generates what meets the condition
+  pub basis_by : (C : List Term → Type 0) (ms qs : List (List Term)) → Generates p n C ms → IsReducedBasis p n (InIdeal p n ms) qs → IsReducedBasis p n C qs
+  basis_by C ms qs g h =
+      record { reduced = h.reduced; exact = λ f a. (λ r. (g.exact f a).0 ((h.exact f a).0 r), λ c. (h.exact f a).1 ((g.exact f a).1 c)) }
+
+-- a basis of one condition is one of each that means the same
+pub basis_for : (p n : ℕ) (C D : List Term → Type 0) (qs : List (List Term)) → ((f : List Term) → IsPoly p n f → C f ↔ D f) → IsReducedBasis p n C qs → IsReducedBasis p n D qs
+basis_for p n C D qs e h =
+    record { reduced = h.reduced; exact = λ f a. (λ r. (e f a).0 ((h.exact f a).0 r), λ c. (h.exact f a).1 ((e f a).1 c)) }
+
+-- ---- over a graded basis of the module of a denominator
+
+module _ (p n : ℕ) (prime : IsPrime p) (six : n ≤ 6) (generators : List Polynomial) (d : Polynomial) (go : All (IsOver p n) generators) (do_ : IsOver p n d) (m : Gens)
+    (known : AreGens m × IsReduced m.prime m.variables m.shift (term_lists m.vectors)) (ep : m.prime ≡ p) (en : m.variables ≡ n) (es : m.shift ≡ degree_of d.terms)
+    (span : SpanOneModule p n (module_of d.terms (term_lists generators)) (term_lists m.vectors))
+    (low : All (λ f. degree_at (degree_of d.terms) (lead_mono f) ≤ 1000) (term_lists m.vectors)) where
+  pos : 0 < p
+  pos = let h = prime.0 in omega arith
+
+  two : 1 < p
+  two = let h = prime.0 in omega arith
+
+  abbrev pub gs : List (List Term)
+  gs = term_lists generators
+
+  abbrev pub bs : List (List Term)
+  bs = term_lists m.vectors
+
+  pub ga : AreGiven p n d.terms (term_lists generators)
+  ga = given p n six prime d generators do_ go
+
+  reduced : IsReduced p n (degree_of d.terms) (term_lists m.vectors)
+  reduced =
+      subst (λ x. IsReduced p n x (term_lists m.vectors)) es (subst (λ x. IsReduced p x m.shift (term_lists m.vectors)) en (subst (λ x. IsReduced x m.variables m.shift (term_lists m.vectors)) ep known.1))
+
+  pub mb : IsModuleBasis p n d.terms (term_lists generators) (term_lists m.vectors)
+  mb = record { vectors = reduced.vectors; monic = reduced.monic; same = span; all_leads = reduced.all_leads }
+
+  pub vectors_over : All (IsHomogeneousOver p n (degree_of d.terms)) m.vectors
+  vectors_over = all_at m.prime p m.variables n m.shift (degree_of d.terms) m.vectors ep en es known.0.vectors
+
+  pub low_at : All (λ f. degree_at (degree_of d.terms) (lead_mono f) ≤ 1000) (term_lists m.vectors)
+  low_at = low
+
+  pub sum_standard : (qs : List Polynomial) → All (λ f. f.prime ≡ p) qs → term_lists qs ≡ sum_members p (term_lists m.vectors) → AreStandard p n qs
+  sum_standard qs a e =
+      standard_by p n (InIdeal p n (d.terms ∷ term_lists generators)) qs (sum_members p (term_lists m.vectors)) a e (parts_law.sum p n d.terms (term_lists generators) (term_lists m.vectors) ga mb)
+
+  pub colon_standard : (qs : List Polynomial) → All (λ f. f.prime ≡ p) qs → term_lists qs ≡ colon_members p (term_lists m.vectors) → AreStandard p n qs
+  colon_standard qs a e =
+      standard_by p n (InColon p n (term_lists generators) d.terms) qs (colon_members p (term_lists m.vectors)) a e
+      (parts_law.colon p n d.terms (term_lists generators) (term_lists m.vectors) ga mb)
+
+  -- ---- the colon members are low
+
+  low_second : (b : List Term) → (IsGenerator p n (degree_of d.terms) b × IsMonic b) × (degree_at (degree_of d.terms) (lead_mono b) ≤ 1000) → degree_of (dehomogenised p (second b)) ≤ 1000
+  low_second b h =
+      degree_le 1000 (dehomogenised p (second b))
+      (every_normal (AtMost 1000) p (image lower (second b))
+      (every_image (λ w. (IsGraded n w × IsPlain w) × (total_degree w.exponents ≤ 1000)) (AtMost 1000) lower (second b)
+      (λ w x. (let l = degree_lower n six w x.0.0 x.0.1 in let k = x.1 in omega arith))
+      (every_second (λ w. IsGraded n w × (degree_at (degree_of d.terms) w ≡ h.0.0.homogeneous.0)) (λ w. (IsGraded n w × IsPlain w) × (total_degree w.exponents ≤ 1000)) b
+      (λ w z x. ((record { seven = x.0.seven; first = x.0.first; two = (omega arith) }, refl), under w x.1))
+      (every_zip (IsGraded n) (λ w. degree_at (degree_of d.terms) w ≡ h.0.0.homogeneous.0) b h.0.0.vector.graded h.0.0.homogeneous.1))))
+    where
+      top : (b : List Term) (k : IsGenerator p n (degree_of d.terms) b) → IsMonic b → degree_at (degree_of d.terms) (lead_mono b) ≤ 1000 → k.homogeneous.0 ≤ 1000
+      top [] k m l = absurd m
+      top (t ∷ f) k m l = let e = k.homogeneous.1.0 in omega arith
+
+      under : (w : Monomial) → degree_at (degree_of d.terms) w ≡ h.0.0.homogeneous.0 → total_degree w.exponents ≤ 1000
+      under w e =
+          let t = top b h.0.0 h.0.1 h.1 in
+          let more : total_degree w.exponents ≤ total_degree w.exponents + w.component * degree_of d.terms = omega arith in
+          omega arith
+
+  pub colon_low : (qs : List Polynomial) → term_lists qs ≡ colon_members p (term_lists m.vectors) → All (λ f. degree_of f ≤ 1000) (term_lists qs)
+  colon_low qs e =
+      subst (All (λ f. degree_of f ≤ 1000)) (sym (e ∙ colons_are p (term_lists m.vectors)))
+      (each (seconds_of (term_lists m.vectors))
+      (all_seconds (λ b. (IsGenerator p n (degree_of d.terms) b × IsMonic b) × (degree_at (degree_of d.terms) (lead_mono b) ≤ 1000)) (λ f. degree_of (dehomogenised p f) ≤ 1000) (term_lists m.vectors)
+      (λ b h z. low_second b h)
+      (all_from (λ b. (IsGenerator p n (degree_of d.terms) b × IsMonic b) × (degree_at (degree_of d.terms) (lead_mono b) ≤ 1000)) (term_lists m.vectors)
+      (λ b c. (
+        (All-contains (IsGenerator p n (degree_of d.terms)) (term_lists m.vectors) b reduced.vectors c, All-contains IsMonic (term_lists m.vectors) b reduced.monic c),
+        All-contains (λ f. degree_at (degree_of d.terms) (lead_mono f) ≤ 1000) (term_lists m.vectors) b low_at c,
+      )))))
+    where
+      each : (fs : List (List Term)) → All (λ f. degree_of (dehomogenised p f) ≤ 1000) fs → All (λ f. degree_of f ≤ 1000) (all_dehomogenised p fs)
+      each [] a = All-nil (λ f. degree_of f ≤ 1000)
+      each (f ∷ fs) a =
+          All-cons (λ (f : List Term). degree_of f ≤ 1000) (dehomogenised p f) (all_dehomogenised p fs) (All-head (λ f. degree_of (dehomogenised p f) ≤ 1000) f fs a)
+          (each fs (All-tail (λ f. degree_of (dehomogenised p f) ≤ 1000) f fs a))
+
+  -- ---- all of it
+
+  module _ (ideal : List Polynomial) (io : All (IsOver p n) ideal) (ib : IsReducedBasis p n (InIdeal p n (term_lists generators)) (term_lists ideal)) where
+    same_ideal : (f : List Term) → InIdeal p n (term_lists generators) f ↔ InIdeal p n (term_lists ideal) f
+    same_ideal f = (
+      λ r. (ib.exact f (in_poly p n (term_lists generators) f pos ga.generators r)).1 r,
+      λ r. (ib.exact f (in_poly p n (term_lists ideal) f pos ib.reduced.polys r)).0 r,
+    )
+
+    larger : (hs cs : List (List Term)) → All (IsPoly p n) hs → ((f : List Term) → InIdeal p n hs f → InIdeal p n cs f) → (f : List Term) → InIdeal p n (d.terms ∷ hs) f → InIdeal p n (d.terms ∷ cs) f
+    larger hs cs h k f r =
+        in_larger p n (d.terms ∷ hs) (d.terms ∷ cs) f pos
+        (All-cons (InIdeal p n (d.terms ∷ cs)) d.terms hs (in_head p n d.terms cs two do_.poly)
+        (all_from (InIdeal p n (d.terms ∷ cs)) hs (λ g c. in_more p n d.terms cs g (k g (in_generator p n hs g two h c))))) r
+
+    same_sum : (f : List Term) → IsPoly p n f → InIdeal p n (d.terms ∷ term_lists generators) f ↔ InIdeal p n (d.terms ∷ term_lists ideal) f
+    same_sum f a = (
+      larger (term_lists generators) (term_lists ideal) ga.generators (λ g r. (same_ideal g).0 r) f,
+      larger (term_lists ideal) (term_lists generators) ib.reduced.polys (λ g r. (same_ideal g).1 r) f,
+    )
+
+    pub lifted : (some : 1 ≤ n) (sums colons sum colon : List Polynomial) → term_lists sums ≡ sum_members p (term_lists m.vectors) → term_lists colons ≡ colon_members p (term_lists m.vectors)
+        → All (IsOver p n) sum → All (IsOver p n) colon → IsReducedBasis p n (InIdeal p n (term_lists sums)) (term_lists sum) → IsReducedBasis p n (InIdeal p n (term_lists colons)) (term_lists colon)
+        → All (λ f. degree_of f ≤ 1000) (term_lists colon)
+        → IsLifted (record { prime = p; variables = n; denominator = d; ideal = ideal; sum = sum; colon = colon })
+        × HasModule (record { prime = p; variables = n; denominator = d; ideal = ideal; sum = sum; colon = colon }) m
+    lifted some sums colons sum colon es' ec so co bs' bc lc = (
+      record {
+        prime = prime;
+        some_variables = some;
+        six_variables = six;
+        denominator = do_;
+        ideal_over = io;
+        sum_over = so;
+        colon_over = co;
+        ideal = basis_for p n (InIdeal p n (term_lists generators)) (InIdeal p n (term_lists ideal)) (term_lists ideal) (λ f a. same_ideal f) ib;
+        sum = basis_for p n (InIdeal p n (d.terms ∷ term_lists generators)) (InIdeal p n (d.terms ∷ term_lists ideal)) (term_lists sum) same_sum
+            (basis_by p n (InIdeal p n (d.terms ∷ term_lists generators)) (sum_members p (term_lists m.vectors)) (term_lists sum)
+            (parts_law.sum p n d.terms (term_lists generators) (term_lists m.vectors) ga mb) (subst (λ w. IsReducedBasis p n (InIdeal p n w) (term_lists sum)) es' bs'));
+        colon = basis_for p n (InColon p n (term_lists generators) d.terms) (InColon p n (term_lists ideal) d.terms) (term_lists colon) (λ f a. same_ideal (mul p d.terms f))
+            (basis_by p n (InColon p n (term_lists generators) d.terms) (colon_members p (term_lists m.vectors)) (term_lists colon)
+            (parts_law.colon p n d.terms (term_lists generators) (term_lists m.vectors) ga mb) (subst (λ w. IsReducedBasis p n (InIdeal p n w) (term_lists colon)) ec bc));
+        low = lc;
+      },
+      record { generators = term_lists generators; given = ga; same = same_ideal; prime = ep; variables = en; shift = es; gens = known.0; reduced = known.1; span = span; low = low_at },
+    )
+
+-- ---- a module spanned by polynomials has a basis of polynomials
+
+pub plain_basis : (p n : ℕ) (gs bs : List (List Term)) → 1 < p → All (EachMono IsPlain) gs → All (IsGradedVector p n) bs → SpanOneModule p n gs bs → All (EachMono IsPlain) bs
+plain_basis p n gs bs two a v s = all_from (EachMono IsPlain) bs (λ b c. plain b ((s b).1 (members.in_generator p n bs b two v c)))
+  where
+    combined : (qs gs : List (List Term)) → All (IsFactor p n) qs → All (EachMono IsPlain) gs → EachMono IsPlain (combination p qs gs)
+    combined [] gs a b = tt
+    combined (q ∷ qs) [] a b = tt
+    combined (q ∷ qs) (g ∷ gs) a b =
+        every_add IsPlain p (mul p q g) (combination p qs gs)
+        (every_mul IsPlain p q g (λ m w x y. omega arith) (All-head (IsFactor p n) q qs a).plain (All-head (EachMono IsPlain) g gs b))
+        (combined qs gs (All-tail (IsFactor p n) q qs a) (All-tail (EachMono IsPlain) g gs b))
+
+    plain : (b : List Term) → InModule p n gs b → EachMono IsPlain b
+    plain b r = subst (EachMono IsPlain) (sym r.combined) (combined r.factors gs r.polys a)
+
+-- ---- what `make` owes
+
+deep_same : (p q n m s t limit : ℕ) (u v : List (List Term)) → p ≡ q → n ≡ m → s ≡ t → u ≡ v → IsDeep p n s u limit → IsDeep q m t v limit
+deep_same p q n m s t limit u v e f g h x =
+    subst (λ w. IsDeep q m t w limit) h (subst (λ w. IsDeep q m w u limit) g (subst (λ w. IsDeep q w s u limit) f (subst (λ w. IsDeep w n s u limit) e x)))
+
+module _ (p n : ℕ) (prime : IsPrime p) (six : n ≤ 6) (ideal : List Polynomial) (io : All (IsOver p n) ideal) (gens b : Gens)
+    (ring : (gens.prime ≡ p) × (gens.variables ≡ n) × (gens.shift ≡ 0)) (lists : term_lists gens.vectors ≡ all_homogenised (term_lists ideal)) (same : AreOverOneRing gens b)
+    (known : IsReduced b.prime b.variables b.shift (term_lists b.vectors)) (span : SpanOneModule gens.prime gens.variables (term_lists gens.vectors) (term_lists b.vectors)) where
+  ga' : AreGiven p n [] (term_lists ideal)
+  ga' = record { prime = prime; six = six; denominator = (let h = prime.0 in record { canonical = tt; affine = tt }); generators = polys p n six prime ideal io }
+
+  span_at : SpanOneModule b.prime b.variables (all_homogenised (term_lists ideal)) (term_lists b.vectors)
+  span_at =
+      subst (λ w. SpanOneModule b.prime b.variables w (term_lists b.vectors)) lists
+      (subst (λ x. SpanOneModule x b.variables (term_lists gens.vectors) (term_lists b.vectors)) (sym same.prime)
+      (subst (λ x. SpanOneModule gens.prime x (term_lists gens.vectors) (term_lists b.vectors)) (sym same.variables) span))
+
+  pub plain_vectors : All (EachMono IsPlain) (term_lists gens.vectors) → All (EachMono IsPlain) (term_lists b.vectors)
+  plain_vectors a =
+      plain_basis gens.prime gens.variables (term_lists gens.vectors) (term_lists b.vectors) (let h = prime.0 in let e = ring.0 in omega arith) a
+      (subst (λ x. All (IsGradedVector x gens.variables) (term_lists b.vectors)) same.prime (subst (λ x. All (IsGradedVector b.prime x) (term_lists b.vectors)) same.variables (vectors (term_lists b.vectors) known.vectors)))
+      span
+    where
+      vectors : (fs : List (List Term)) → All (IsGenerator b.prime b.variables b.shift) fs → All (IsGradedVector b.prime b.variables) fs
+      vectors [] a = All-nil (IsGradedVector b.prime b.variables)
+      vectors (f ∷ fs) a =
+          All-cons (IsGradedVector b.prime b.variables) f fs (All-head (IsGenerator b.prime b.variables b.shift) f fs a).vector (vectors fs (All-tail (IsGenerator b.prime b.variables b.shift) f fs a))
+
+  pub ideal_basis : (ds : List (List Term)) → IsLoweredBasis b ds → IsReducedBasis p n (InIdeal p n (term_lists ideal)) ds
+  ideal_basis ds h =
+      let ep = same.prime ∙ ring.0 in
+      let en = same.variables ∙ ring.1 in
+      let hom = homogeneous_gs p n [] (term_lists ideal) ga' in
+      let homs = subst (λ x. All (IsHomogeneousPoly x b.variables) (all_homogenised (term_lists ideal))) (sym ep) (subst (λ x. All (IsHomogeneousPoly p x) (all_homogenised (term_lists ideal))) (sym en) hom) in
+      let r = h (all_homogenised (term_lists ideal)) homs span_at in
+      subst (λ w. IsReducedBasis p n (InIdeal p n w) ds) (lower_all p n [] (term_lists ideal) ga' (term_lists ideal) ga'.generators)
+      (subst (λ x. IsReducedBasis p x (InIdeal p x (all_dehomogenised p (all_homogenised (term_lists ideal)))) ds) en
+      (subst (λ x. IsReducedBasis x b.variables (InIdeal x b.variables (all_dehomogenised x (all_homogenised (term_lists ideal)))) ds) ep r))
+
+  pub deep_ideal : (limit : ℕ) → IsDeep gens.prime gens.variables gens.shift (term_lists gens.vectors) limit ↔ IsDeep p n 0 (all_homogenised (term_lists ideal)) limit
+  deep_ideal limit = (
+    deep_same gens.prime p gens.variables n gens.shift 0 limit (term_lists gens.vectors) (all_homogenised (term_lists ideal)) ring.0 ring.1 ring.2 lists,
+    deep_same p gens.prime n gens.variables 0 gens.shift limit (all_homogenised (term_lists ideal)) (term_lists gens.vectors) (sym ring.0) (sym ring.1) (sym ring.2) (sym lists),
+  )
+
+pub deep_pairs : (p n : ℕ) (d : Polynomial) (ideal : List Polynomial) (pairs : Gens) (limit : ℕ) → pairs.prime ≡ p → pairs.variables ≡ n → pairs.shift ≡ degree_of d.terms
+    → term_lists pairs.vectors ≡ module_of d.terms (term_lists ideal) → IsDeep pairs.prime pairs.variables pairs.shift (term_lists pairs.vectors) limit ↔ IsDeepDenominator p n d.terms (term_lists ideal) limit
+deep_pairs p n d ideal pairs limit ep en es ev = (
+  deep_same pairs.prime p pairs.variables n pairs.shift (degree_of d.terms) limit (term_lists pairs.vectors) (module_of d.terms (term_lists ideal)) ep en es ev,
+  deep_same p pairs.prime n pairs.variables (degree_of d.terms) pairs.shift limit (module_of d.terms (term_lists ideal)) (term_lists pairs.vectors) (sym ep) (sym en) (sym es) (sym ev),
+)
+
+pub span_pairs : (p n : ℕ) (d : Polynomial) (ideal : List Polynomial) (pairs b : Gens) → pairs.prime ≡ p → pairs.variables ≡ n → term_lists pairs.vectors ≡ module_of d.terms (term_lists ideal)
+    → SpanOneModule pairs.prime pairs.variables (term_lists pairs.vectors) (term_lists b.vectors) → SpanOneModule p n (module_of d.terms (term_lists ideal)) (term_lists b.vectors)
+span_pairs p n d ideal pairs b ep en ev h =
+    subst (λ w. SpanOneModule p n w (term_lists b.vectors)) ev
+    (subst (λ x. SpanOneModule p x (term_lists pairs.vectors) (term_lists b.vectors)) en
+    (subst (λ x. SpanOneModule x pairs.variables (term_lists pairs.vectors) (term_lists b.vectors)) ep h))
+
+pub ok_more : {T E : Type 0} (r : Result T E) (P Q : T → Type 0) → ((x : T) → P x → Q x) → IfOk r P → IfOk r Q
+ok_more (Ok x) P Q h k = h x k
+ok_more (Err e) P Q h k = k

@@ -1,0 +1,5 @@
+mod Affine
+mod Vectors
+mod Members
+mod Bases
+mod Lifting

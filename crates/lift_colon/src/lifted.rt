@@ -1,0 +1,254 @@
+// An ideal and a denominator with the bases that decide about them.
+ghost use Rattle.std.specs.Prelude.{◌≡◌, ℕ, ◌<◌, ◌≤◌, ◌+◌, ◌↔◌, ◌∷◌, All, IfOk, IfErr, IsTrue, IsNone, IfSome};
+ghost use Rattle.lift_colon.specs.Lifted.{IsLifted, IsDeepWith, IsLift};
+ghost use Rattle.module_basis.specs.Gens.{term_lists};
+ghost use Rattle.module_basis.specs.declared.gens.BasisStop.TheVariants.{Deep};
+ghost use Rattle.denominator_module.specs.Module.{module_of, IsDeepDenominator};
+ghost use Rattle.graded_modules.specs.Bases.{SpanOneModule};
+ghost use Rattle.graded_modules.specs.Vector.{degree_at, lead_mono};
+ghost use Rattle.polys.specs.Curve.{IsOver};
+ghost use Rattle.polys.specs.Ideal.{HasDim, HasInfiniteDim, InIdeal, Regular};
+ghost use Rattle.polys.specs.Reduced.{IsReducedBasis};
+ghost use Rattle.polys.specs.Terms.{IsPoly, degree_of};
+ghost use Rattle.prime_field.specs.Primes.{IsPrime};
+
+use crate::parts::{colon_part, module_gens, sum_part};
+use denominator_module::{first_part, second_part};
+use homogenising::{dehomogenised, homogenised_to};
+use module_basis::{BasisStop, Gens, GradedBasis, graded_basis, interreduced};
+use norm_outside::{List, NoMemory};
+use polys::Poly;
+use prime_field::Prime;
+use standard_monomials::{Dimension, dimension_modulo};
+use std::alloc::Global;
+use std::marker::Model;
+
+/// An ideal I and a denominator d, with the reduced bases of I, of I + (d) and of the colon ideal I : d, and the
+/// reduced basis of the graded module of d, from which they come.
+///
+/// Greuel and Pfister, sections on colon ideals and on syzygies.
+#[derive(Debug, Drop)]
+pub struct Lifted {
+    prime: Prime,
+    variables: u32,
+    denominator: Poly,
+    ideal: List<Poly>,
+    sum: List<Poly>,
+    colon: List<Poly>,
+    graded: GradedBasis,
+}
+
+impl Model for Lifted {
+    ghost use Rattle.lift_colon.specs.Lifted.{LiftedData, IsLifted, HasModule};
+
+    ghost Value = { LiftedData };
+
+    ghost view = { λ l. record { prime = l.prime; variables = l.variables; denominator = l.denominator; ideal = l.ideal; sum = l.sum; colon = l.colon } };
+
+    ghost invariant = { λ l.
+        IsLifted (record { prime = l.prime; variables = l.variables; denominator = l.denominator; ideal = l.ideal; sum = l.sum; colon = l.colon })
+        × HasModule (record { prime = l.prime; variables = l.variables; denominator = l.denominator; ideal = l.ideal; sum = l.sum; colon = l.colon }) l.graded };
+}
+
+// The reduced basis of the module of a denominator.
+fn denominator_basis(
+    alloc: Global,
+    prime: Prime,
+    variables: u32,
+    ideal: &[Poly],
+    d: &Poly,
+    cap: u32,
+) -> Result<GradedBasis, BasisStop>
+    requires prime { IsPrime prime }
+    requires some_variables { 1 ≤ variables }
+    requires six_variables { variables ≤ 6 }
+    requires ideal { All (IsOver prime variables) ideal.now }
+    requires denominator { IsOver prime variables d.now }
+    requires room { degree_of d.now.terms ≤ 60000 }
+    requires some_cap { 1 ≤ cap }
+    requires cap { cap ≤ 1000 }
+    ensures ring { IfOk result (λ b. (b.prime ≡ prime) × (b.variables ≡ variables) × (b.shift ≡ degree_of d.now.terms)) }
+    ensures span { IfOk result (λ b. SpanOneModule prime variables (module_of d.now.terms (term_lists ideal.now)) (term_lists b.vectors)) }
+    ensures low { IfOk result (λ b. All (λ f. degree_at (degree_of d.now.terms) (lead_mono f) ≤ cap) (term_lists b.vectors)) }
+    ensures not_deep { IfOk result (λ b. IsDeepDenominator prime variables d.now.terms (term_lists ideal.now) cap → ⊥) }
+    ensures deep { IfErr result (λ stop. stop ≡ Deep → IsDeepDenominator prime variables d.now.terms (term_lists ideal.now) cap) }
+{
+    let pairs = module_gens(alloc, prime, variables, ideal, d)?;
+    graded_basis(alloc, &pairs, cap)
+}
+
+// The bases of the parts of the module.
+fn of_module(
+    alloc: Global,
+    prime: Prime,
+    variables: u32,
+    generators: &[Poly],
+    d: &Poly,
+    ideal: List<Poly>,
+    graded: GradedBasis,
+) -> Result<Lifted, NoMemory>
+    requires prime { IsPrime prime }
+    requires some_variables { 1 ≤ variables }
+    requires six_variables { variables ≤ 6 }
+    requires generators { All (IsOver prime variables) generators.now }
+    requires denominator { IsOver prime variables d.now }
+    requires over { All (IsOver prime variables) ideal }
+    requires ideal { IsReducedBasis prime variables (InIdeal prime variables (term_lists generators.now)) (term_lists ideal) }
+    requires ring { (graded.prime ≡ prime) × (graded.variables ≡ variables) × (graded.shift ≡ degree_of d.now.terms) }
+    requires span { SpanOneModule prime variables (module_of d.now.terms (term_lists generators.now)) (term_lists graded.vectors) }
+    requires low { All (λ f. degree_at (degree_of d.now.terms) (lead_mono f) ≤ 1000) (term_lists graded.vectors) }
+    ensures data { IfOk result (λ l. (l.prime ≡ prime) × (l.variables ≡ variables) × (l.denominator ≡ d.now) × (l.ideal ≡ ideal)) }
+{
+    let vectors = graded.vectors();
+    let sums = sum_part(alloc, prime, variables, vectors)?;
+    let sum = interreduced(alloc, prime, variables, sums.as_slice())?;
+    let colons = colon_part(alloc, prime, variables, vectors)?;
+    let colon = interreduced(alloc, prime, variables, colons.as_slice())?;
+    Ok(Lifted {
+        prime,
+        variables,
+        denominator: d.clone_poly()?,
+        ideal,
+        sum,
+        colon,
+        graded,
+    })
+}
+
+impl Lifted {
+    /// The bases of the ideal of the list and of the denominator d, or `Deep`.
+    ///
+    /// # Errors
+    /// `Deep` exactly where the homogenised polynomials of the list are deep under the cap, or the module of d is, with
+    /// the list as it is; `Memory` for want of memory.
+    pub fn make(
+        alloc: Global,
+        prime: Prime,
+        variables: u32,
+        ideal: &[Poly],
+        d: &Poly,
+        cap: u32,
+    ) -> Result<Lifted, BasisStop>
+        requires some_variables { 1 ≤ variables }
+        requires six_variables { variables ≤ 6 }
+        requires ideal { All (IsOver prime variables) ideal.now }
+        requires denominator { IsOver prime variables d.now }
+        requires some_cap { 1 ≤ cap }
+        requires cap { cap ≤ 1000 }
+        ensures data { IfOk result (λ l. (l.prime ≡ prime) × (l.variables ≡ variables) × (l.denominator ≡ d.now)) }
+        ensures ideal { IfOk result (λ l. IsReducedBasis prime variables (InIdeal prime variables (term_lists ideal.now)) (term_lists l.ideal)) }
+        ensures not_deep { IfOk result (λ l. IsDeepWith prime variables ideal.now d.now cap → ⊥) }
+        ensures deep { IfErr result (λ stop. stop ≡ Deep → IsDeepWith prime variables ideal.now d.now cap) }
+    {
+        let _prime = prime.get();
+        let _terms = d.terms();
+        let gens = Gens::homogenised(alloc, prime, variables, ideal)?;
+        let basis = graded_basis(alloc, &gens, cap)?.dehomogenised()?;
+        let graded = denominator_basis(alloc, prime, variables, ideal, d, cap)?;
+        Ok(of_module(alloc, prime, variables, ideal, d, basis, graded)?)
+    }
+
+    /// The prime.
+    pub fn prime(&self) -> Prime
+        ensures { result ≡ self.now.prime }
+    {
+        self.prime
+    }
+
+    /// The number of variables, from 1 to 6.
+    pub fn variables(&self) -> u32
+        ensures { result ≡ self.now.variables }
+    {
+        self.variables
+    }
+
+    /// The denominator d.
+    pub fn denominator(&self) -> &Poly
+        ensures { result.now ≡ self.now.denominator }
+    {
+        &self.denominator
+    }
+
+    /// The reduced basis of I.
+    pub fn ideal_basis(&self) -> &[Poly]
+        ensures value { result.now ≡ self.now.ideal }
+        ensures known { IsLifted self.now }
+    {
+        self.ideal.as_slice()
+    }
+
+    /// The reduced basis of I + (d).
+    pub fn sum_basis(&self) -> &[Poly]
+        ensures value { result.now ≡ self.now.sum }
+        ensures known { IsLifted self.now }
+    {
+        self.sum.as_slice()
+    }
+
+    /// The reduced basis of the colon ideal I : d, of all polynomials whose product with d is in I. Its members have
+    /// degree at most 1,000.
+    pub fn colon_gens(&self) -> &[Poly]
+        ensures value { result.now ≡ self.now.colon }
+        ensures known { IsLifted self.now }
+    {
+        self.colon.as_slice()
+    }
+}
+
+impl Lifted {
+    /// A polynomial u for which g - u d is in I, or `None` exactly where g is not in I + (d). Where u is not 0, its
+    /// degree and that of d are together at most the degree of g plus 1,000.
+    ///
+    /// It is the normal form of g, lifted by 1,000 degrees, modulo the module of d.
+    pub fn lift(&self, alloc: Global, g: &Poly) -> Result<Option<Poly>, NoMemory>
+        requires prime { g.now.prime ≡ self.now.prime }
+        requires poly { IsPoly self.now.prime self.now.variables g.now.terms }
+        requires room { degree_of g.now.terms ≤ 59000 }
+        ensures some { IfOk result (λ u. IfSome u (λ u. (u.prime ≡ self.now.prime) × IsLift self.now g.now.terms u.terms)) }
+        ensures none { IfOk result (λ u. IsNone u ↔ (InIdeal self.now.prime self.now.variables (self.now.denominator.terms ∷ term_lists self.now.ideal) g.now.terms → ⊥)) }
+    {
+        let high = homogenised_to(alloc, self.variables, g.degree() + 1000, g)?;
+        let rest = self.graded.normal_form(&high)?;
+        if first_part(alloc, &rest)?.lead().is_some() {
+            return Ok(None);
+        }
+        let part = dehomogenised(alloc, self.variables, &second_part(alloc, &rest)?)?;
+        Ok(Some(Poly::zero(alloc, self.prime).sub(&part)?))
+    }
+
+    /// Whether d is regular modulo I: whether the colon ideal I : d is I.
+    pub fn is_regular(&self) -> Result<bool, NoMemory>
+        ensures { IfOk result (λ yes. IsTrue yes ↔ Regular self.now.prime self.now.variables (term_lists self.now.ideal) self.now.denominator.terms) }
+    {
+        Ok(are_same(self.ideal.as_slice(), self.colon.as_slice()))
+    }
+
+    /// The dimension of the polynomials modulo I + (d), up to the limit. It is the number of the standard monomials of the
+    /// reduced basis of I + (d).
+    pub fn dimension(&self, alloc: Global, limit: u32) -> Result<Dimension, NoMemory>
+        requires { limit ≤ 60000 }
+        ensures finite { IfOk result (λ a. (N : ℕ) → (a ≡ Dimension.Finite N) ↔ ((N ≤ limit) × HasDim self.now.prime self.now.variables (self.now.denominator.terms ∷ term_lists self.now.ideal) N)) }
+        ensures wide { IfOk result (λ a. (a ≡ Dimension.Wide) ↔ ((N : ℕ) × (limit < N) × HasDim self.now.prime self.now.variables (self.now.denominator.terms ∷ term_lists self.now.ideal) N)) }
+        ensures infinite { IfOk result (λ a. (a ≡ Dimension.Infinite) ↔ HasInfiniteDim self.now.prime self.now.variables (self.now.denominator.terms ∷ term_lists self.now.ideal)) }
+    {
+        dimension_modulo(alloc, self.prime, self.variables, self.sum_basis(), limit)
+    }
+}
+
+// Whether two lists of polynomials are equal.
+fn are_same(a: &[Poly], b: &[Poly]) -> bool
+    ensures { IsTrue result ↔ (a.now ≡ b.now) }
+{
+    if a.len() != b.len() {
+        return false;
+    }
+    for i in 0..a.len() {
+        if !a[i].same(&b[i]) {
+            return false;
+        }
+    }
+    true
+}
+
+#[cfg(test)]
+mod tests;

@@ -1,0 +1,122 @@
+// The module of a denominator, and the two parts of its basis.
+ghost use Rattle.std.specs.Prelude.{◌≡◌, ◌≤◌, ◌↔◌, ℕ, All, IfOk, IsTrue};
+ghost use Rattle.denominator_module.specs.Module.{with_unit, module_of, sum_members, colon_members};
+ghost use Rattle.graded_modules.specs.Vector.{lead_mono};
+ghost use Rattle.module_basis.specs.Gens.{AreGens, IsHomogeneousOver, term_lists};
+ghost use Rattle.polys.specs.Curve.{IsOver};
+ghost use Rattle.prime_field.specs.Primes.{IsPrime};
+ghost use Rattle.polys.specs.Terms.{degree_of};
+
+use denominator_module::{first_part, second_part};
+use homogenising::{dehomogenised, homogenised_to};
+use module_basis::Gens;
+use monomials::Mono;
+use norm_outside::{List, NoMemory};
+use polys::{Poly, Term};
+use prime_field::Prime;
+use std::alloc::Global;
+
+// The vector (d, 1), homogenised: the second unit vector has the degree of d.
+fn unit_vector(alloc: Global, prime: Prime, variables: u32, d: &Poly) -> Result<Poly, NoMemory>
+    requires prime { IsPrime prime }
+    requires variables { variables ≤ 6 }
+    requires denominator { IsOver prime variables d.now }
+    requires room { degree_of d.now.terms ≤ 60000 }
+    ensures prime { IfOk result (λ v. v.prime ≡ prime) }
+    ensures terms { IfOk result (λ v. v.terms ≡ with_unit d.now.terms) }
+{
+    let lifted = homogenised_to(alloc, variables, d.degree(), d)?;
+    let mut terms = List::of_vec(lifted.into_terms());
+    terms.push(Term {
+        coeff: 1,
+        mono: Mono::one().with_component(1),
+    })?;
+    Ok(Poly::of_terms(prime, terms.into_vec()))
+}
+
+/// The vectors (d, 1) and (g, 0) for each generator g of the ideal, homogenised.
+pub fn module_gens(
+    alloc: Global,
+    prime: Prime,
+    variables: u32,
+    ideal: &[Poly],
+    d: &Poly,
+) -> Result<Gens, NoMemory>
+    requires prime { IsPrime prime }
+    requires some_variables { 1 ≤ variables }
+    requires six_variables { variables ≤ 6 }
+    requires ideal { All (IsOver prime variables) ideal.now }
+    requires denominator { IsOver prime variables d.now }
+    requires room { degree_of d.now.terms ≤ 60000 }
+    ensures prime { IfOk result (λ gens. gens.prime ≡ prime) }
+    ensures variables { IfOk result (λ gens. gens.variables ≡ variables) }
+    ensures shift { IfOk result (λ gens. gens.shift ≡ degree_of d.now.terms) }
+    ensures vectors { IfOk result (λ gens. term_lists gens.vectors ≡ module_of d.now.terms (term_lists ideal.now)) }
+    ensures gens { IfOk result (λ gens. AreGens gens) }
+{
+    let gens = Gens::homogenised(alloc, prime, variables, ideal)?;
+    let mut first = List::new(alloc);
+    first.push(unit_vector(alloc, prime, variables, d)?)?;
+    let mut vectors = first.into_vec();
+    vectors.append(&mut gens.vectors.into_vec())?;
+    Ok(Gens {
+        prime,
+        variables,
+        shift: d.degree(),
+        vectors: List::of_vec(vectors),
+    })
+}
+
+/// The first parts of the vectors whose leads lie there, where the homogenising variable is 1.
+pub fn sum_part(
+    alloc: Global,
+    prime: Prime,
+    variables: u32,
+    vectors: &[Poly],
+) -> Result<List<Poly>, NoMemory>
+    requires prime { IsPrime prime }
+    requires six_variables { variables ≤ 6 }
+    requires vectors { (shift : ℕ) × All (IsHomogeneousOver prime variables shift) vectors.now }
+    ensures primes { IfOk result (λ v. All (λ f. f.prime ≡ prime) v) }
+    ensures terms { IfOk result (λ v. term_lists v ≡ sum_members prime (term_lists vectors.now)) }
+{
+    let mut parts = List::new(alloc);
+    for v in vectors {
+        if is_first(v) {
+            parts.push(dehomogenised(alloc, variables, &first_part(alloc, v)?)?)?;
+        }
+    }
+    Ok(parts)
+}
+
+/// The second parts of the vectors whose leads lie there, where the homogenising variable is 1.
+pub fn colon_part(
+    alloc: Global,
+    prime: Prime,
+    variables: u32,
+    vectors: &[Poly],
+) -> Result<List<Poly>, NoMemory>
+    requires prime { IsPrime prime }
+    requires six_variables { variables ≤ 6 }
+    requires vectors { (shift : ℕ) × All (IsHomogeneousOver prime variables shift) vectors.now }
+    ensures primes { IfOk result (λ v. All (λ f. f.prime ≡ prime) v) }
+    ensures terms { IfOk result (λ v. term_lists v ≡ colon_members prime (term_lists vectors.now)) }
+{
+    let mut parts = List::new(alloc);
+    for v in vectors {
+        if !is_first(v) {
+            parts.push(dehomogenised(alloc, variables, &second_part(alloc, v)?)?)?;
+        }
+    }
+    Ok(parts)
+}
+
+// Whether the lead lies in the first component.
+fn is_first(v: &Poly) -> bool
+    ensures { IsTrue result ↔ ((lead_mono v.now.terms).component ≡ 0) }
+{
+    match v.lead() {
+        None => true,
+        Some(t) => t.mono.component() == 0,
+    }
+}
