@@ -1,5 +1,5 @@
 -- Terms without the homogenising variable are those of a polynomial in six variables.
-use Rattle.std.proofs.Common.{◌≡◌, ℕ, ◌+◌, ◌≤◌, ◌<◌, zero, suc, List, [], ◌∷◌, length, take, get_or, refl, sym, ap, ◌∙◌, subst, arith}
+use Rattle.std.proofs.Common.{◌≡◌, ℕ, ◌+◌, ◌≤◌, ◌<◌, zero, suc, List, [], ◌∷◌, length, take, get_or, subst, arith}
 use Rattle.std.proofs.lemmas.List.{take_all}
 use Rattle.monomials.specs.Mono.{Monomial, IsMono}
 use Rattle.polys.specs.declared.term.Term.{Term}
@@ -25,5 +25,5 @@ affine p i f v l h =
     record {
       canonical = v.canonical;
       affine = every_more (λ m. IsMono m × IsLow m) (IsAffine 6) f (λ m x. record { seven = x.0.seven; first = only_last 6 m.exponents x.0.seven x.1.0; plain = x.1.1 })
-      (every_zip IsMono IsLow f v.monos (subst (EachMono IsLow) (take_all i f l) h));
+          (every_zip IsMono IsLow f v.monos (subst (EachMono IsLow) (take_all i f l) h));
     }

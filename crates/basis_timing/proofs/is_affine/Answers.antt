@@ -1,6 +1,5 @@
-use Rattle.std.proofs.Common.{◌≡◌, ◌+◌, ◌≤◌, ◌<◌, length, get_or, take, sym, ◌∙◌, subst}
-use Rattle.polys.specs.Terms.{EachMono}
-use Rattle.basis_timing.proofs.Affine.{IsLow, next, affine}
+use Rattle.std.proofs.Common.{◌≤◌, ◌<◌, length, get_or, sym, ◌∙◌, subst}
+use Rattle.basis_timing.proofs.Affine.{next, affine}
 use Rattle.basis_timing.proofs.is_affine.Goals as goal
 
 pub loop-t-preserved : goal.loop-t-preserved

@@ -98,13 +98,7 @@ fn put_variable(alloc: Global, p: Prime, v: u32, fs: &mut List<Poly>) -> Result<
 }
 
 // The bases of an ideal and of a denominator, or nothing where they are deep.
-fn made(
-    alloc: Global,
-    p: Prime,
-    ideal: &[Poly],
-    d: Rows,
-    cap: u32,
-) -> Result<Option<Lifted>, Fail>
+fn made(alloc: Global, p: Prime, ideal: &[Poly], d: Rows, cap: u32) -> Result<Option<Lifted>, Fail>
     requires { All (IsOver p 6) ideal.now }
     ensures { IfOk result (λ l. IfSome l (λ l. (l.prime ≡ p) × (l.variables ≡ 6))) }
 {
@@ -219,7 +213,13 @@ fn deep_denominators(rt: HostRuntime) -> Result<(), Fail> {
 fn lift_on_the_cusp(alloc: Global, p: Prime, g: Rows) -> Result<Option<Poly>, Fail> {
     match lifted(alloc, p, &[(1, 3, 0), (6, 0, 2)], &[(1, 1, 0)], 100)? {
         None => Err("deep".into()),
-        Some(l) => Ok(l.lift(alloc, &polynomial(alloc, p, g)?)?),
+        Some(l) => {
+            let g = polynomial(alloc, p, g)?;
+            if g.degree() > 100 {
+                return Err("the degree is too high".into());
+            }
+            Ok(l.lift(alloc, &g)?)
+        }
     }
 }
 

@@ -1,6 +1,5 @@
-use Rattle.std.proofs.Common.{◌≡◌, ◌+◌, ◌≤◌, ◌<◌, length, get_or, take, sym, ◌∙◌, subst}
-use Rattle.polys.specs.Terms.{EachMono}
-use Rattle.lift_colon.proofs.Affine.{IsLow, next, affine}
+use Rattle.std.proofs.Common.{◌≤◌, ◌<◌, length, get_or, sym, ◌∙◌, subst}
+use Rattle.lift_colon.proofs.Affine.{next, affine}
 use Rattle.lift_colon.proofs.lifted.tests.is_affine.Goals as goal
 
 pub loop-t-preserved : goal.loop-t-preserved
