@@ -1,2 +1,14 @@
 pub mod Fronts
 pub mod Texts
+pub mod Lexing
+pub mod Counting
+pub mod Scans
+pub mod Listed
+pub mod Numbers
+pub mod Monomials
+pub mod Powers
+pub mod Affine
+pub mod Classes
+pub mod Fits
+pub mod Handing
+pub mod Steps

@@ -3,3 +3,10 @@ pub mod PolyText
 pub mod Printing
 pub mod Parts
 pub mod Problem
+pub mod Tokens
+pub mod Words
+pub mod Scanning
+pub mod Expressions
+pub mod Values
+pub mod Reading
+pub mod Evaluating

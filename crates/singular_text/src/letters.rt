@@ -46,8 +46,8 @@ impl Letters {
     }
 }
 
-// Whether each byte is a letter and none stands twice.
-fn are_distinct_letters(letters: &[u8]) -> bool
+/// Whether each byte is a letter and none stands twice.
+pub fn are_distinct_letters(letters: &[u8]) -> bool
     ensures { IsTrue result ↔ (All IsLetter letters.now × ((i : ℕ) → i < length letters.now → (j : ℕ) → j < i → slice_index letters.now j ≢ slice_index letters.now i)) }
 {
     for (i, x) in letters.iter().enumerate() {

@@ -4,9 +4,17 @@
 //! alone.
 #![tactic(auto)]
 
+mod evaluation;
+mod faults;
 mod letters;
 mod printing;
+mod ring;
+mod scanning;
+mod tokens;
+mod values;
+mod words;
 
+pub use faults::{ReadFault, Which};
 pub use letters::Letters;
 pub use printing::{print_bytes, print_number, print_poly};
 

@@ -1,0 +1,188 @@
+-- Monomials raised by one variable after another.
+use Rattle.std.proofs.Common.{◌≡◌, ℕ, ◌+◌, ◌<◌, ◌≤◌, List, [], ◌∷◌, Bool, true, false, cond, length, drop, get_or, refl, sym, ap, ◌∙◌, arith, suc, zero, add-zero, add-one, drop-cons, replicate, ◌||◌, ◌&&◌, ◌==◌}
+use Rattle.std.proofs.Math.ListN.{set}
+use Rattle.std.proofs.lemmas.List.{set-get_or, get_or-set_same, length-set, drop_all}
+use Rattle.std.specs.Char.{is_ascii_digit}
+use Rattle.std.specs.Prelude.{Option, None, Some, MatchOption}
+use Rattle.monomials.specs.Mono.{Monomial, IsMono, pointwise, total_degree, times, variable, unit}
+use Rattle.singular_text.specs.Words.{is_among, are_run_bytes}
+use Rattle.singular_text.specs.Values.{raised, place, front_number, run_after, run_monomial}
+
+abbrev monomial : List ℕ → ℕ → Monomial
+monomial a c = record { exponents = a; component = c }
+
+same_monomial : (a b : List ℕ) (c d : ℕ) → a ≡ b → c ≡ d → monomial a c ≡ monomial b d
+same_monomial a b c d first second = λ i. record { exponents = first i; component = second i }
+
+pub raised_none : (m : Monomial) (v : ℕ) → raised m v 0 ≡ m
+raised_none m v = same_monomial _ m.exponents _ m.component (ap (set m.exponents v) (add-zero (get_or m.exponents v 0)) ∙ set-get_or m.exponents v 0) refl
+
+plus_zeros : (l : List ℕ) → pointwise (λ x y. x + y) l (replicate (length l) 0) ≡ l
+plus_zeros [] = refl
+plus_zeros (x ∷ l) = λ i. add-zero x i ∷ plus_zeros l i
+
+plus_one : (l : List ℕ) (v : ℕ) → v < length l → pointwise (λ x y. x + y) l (set (replicate (length l) 0) v 1) ≡ set l v (get_or l v 0 + 1)
+plus_one [] v within = absurd (omega arith)
+plus_one (x ∷ l) zero within = ap (λ (t : List ℕ). (x + 1) ∷ t) (plus_zeros l)
+plus_one (x ∷ l) (suc v) within = let h : v < length l = omega arith in λ i. add-zero x i ∷ plus_one l v h i
+
+set_set : (l : List ℕ) (v a b : ℕ) → set (set l v a) v b ≡ set l v b
+set_set [] v a b = refl
+set_set (x ∷ l) zero a b = refl
+set_set (x ∷ l) (suc v) a b = ap (λ (t : List ℕ). x ∷ t) (set_set l v a b)
+
+pub raised_next : (m : Monomial) (v k : ℕ) → length m.exponents ≡ 7 → v < 6 → times (raised m v k) (variable v) ≡ raised m v (k + 1)
+raised_next m v k seven within = same_monomial _ (set l v (get_or l v 0 + (k + 1))) _ m.component exponents (add-zero m.component)
+  where
+    l : List ℕ
+    l = m.exponents
+
+    once : List ℕ
+    once = set m.exponents v (get_or m.exponents v 0 + k)
+
+    long : length (set m.exponents v (get_or m.exponents v 0 + k)) ≡ 7
+    long = length-set m.exponents v (get_or m.exponents v 0 + k) ∙ seven
+
+    here : v < length m.exponents
+    here = omega arith
+
+    there : v < length (set m.exponents v (get_or m.exponents v 0 + k))
+    there = omega (arith, length-set m.exponents v (get_or m.exponents v 0 + k) ∙ seven)
+
+    exponents : pointwise (λ x y. x + y) (set m.exponents v (get_or m.exponents v 0 + k)) (set (replicate 7 0) v 1) ≡ set m.exponents v (get_or m.exponents v 0 + (k + 1))
+    exponents =
+        ap (λ (n : ℕ). pointwise (λ x y. x + y) (set m.exponents v (get_or m.exponents v 0 + k)) (set (replicate n 0) v 1)) (sym (length-set m.exponents v (get_or m.exponents v 0 + k) ∙ seven))
+        ∙ plus_one (set m.exponents v (get_or m.exponents v 0 + k)) v (omega (arith, length-set m.exponents v (get_or m.exponents v 0 + k) ∙ seven))
+        ∙ set_set m.exponents v (get_or m.exponents v 0 + k) _
+        ∙ ap (set m.exponents v)
+        (
+        ap (λ (n : ℕ). n + 1) (get_or-set_same m.exponents v (get_or m.exponents v 0 + k) 0 (omega arith)) ∙ omega arith
+        )
+
+-- the degree grows by what is raised
+degree_set : (l : List ℕ) (v e : ℕ) → v < length l → total_degree (set l v (get_or l v 0 + e)) ≡ total_degree l + e
+degree_set [] v e within = absurd (omega arith)
+degree_set (x ∷ l) zero e within = omega arith
+degree_set (x ∷ l) (suc v) e within = let h : total_degree (set l v (get_or l v 0 + e)) ≡ total_degree l + e = degree_set l v e (omega arith) in omega arith
+
+degree_kept : (l : List ℕ) (v e : ℕ) → total_degree l ≤ total_degree (set l v (get_or l v 0 + e))
+degree_kept [] v e = omega arith
+degree_kept (x ∷ l) zero e = omega arith
+degree_kept (x ∷ l) (suc v) e = let h : total_degree l ≤ total_degree (set l v (get_or l v 0 + e)) = degree_kept l v e in omega arith
+
+pub raised_degree : (m : Monomial) (v e : ℕ) → length m.exponents ≡ 7 → v < 6 → total_degree (raised m v e).exponents ≡ total_degree m.exponents + e
+raised_degree m v e seven within = degree_set m.exponents v e (omega arith)
+
+pub raised_mono : (m : Monomial) (v e : ℕ) → IsMono m → v < 6 → total_degree m.exponents + e ≤ 60000 → IsMono (raised m v e)
+raised_mono m v e known within room = record {
+  seven = length-set m.exponents v _ ∙ known.seven;
+  bounded = omega (arith, raised_degree m v e known.seven within);
+  one_of_two = known.one_of_two;
+}
+
+-- ---- a run
+
+pub place_within : (letters : List ℕ) (b : ℕ) → is_among letters b ≡ true → place letters b < length letters
+place_within [] b h = absurd (cc)
+place_within (x ∷ letters) b h = by_case (x == b) refl (place_within letters b)
+  where
+    by_case : (t : Bool) → (x == b) ≡ t → (is_among letters b ≡ true → place letters b < length letters) → cond (x == b) 0 (suc (place letters b)) < suc (length letters)
+    by_case true is more = rw is (omega arith)
+    by_case false is more =
+        let rest : is_among letters b ≡ true = ap (λ (t : Bool). t || is_among letters b) (sym is) ∙ h in
+        let w : place letters b < length letters = more rest in
+        rw is (omega arith)
+
+pub run_digit : (letters : List ℕ) (m : Monomial) (b : ℕ) (word : List ℕ) → is_ascii_digit b ≡ true → run_after letters m (b ∷ word) ≡ run_after letters m word
+unfolding run_after
+run_digit letters m b word is = rw is refl
+
+pub run_letter : (letters : List ℕ) (m : Monomial) (b : ℕ) (word : List ℕ) → is_ascii_digit b ≡ false
+    → run_after letters m (b ∷ word) ≡ run_after letters (raised m (place letters b) (front_number word)) word
+unfolding run_after
+run_letter letters m b word is = rw is refl
+
+pub run_end : (letters : List ℕ) (m : Monomial) → run_after letters m [] ≡ m
+unfolding run_after
+run_end letters m = refl
+
+pub run_grows : (letters : List ℕ) (m : Monomial) (word : List ℕ) → total_degree m.exponents ≤ total_degree (run_after letters m word).exponents
+run_grows letters m [] = rw (run_end letters m) (omega arith)
+run_grows letters m (b ∷ word) = by_case (is_ascii_digit b) refl (run_grows letters m word) (run_grows letters (raised m (place letters b) (front_number word)) word)
+  where
+    by_case : (t : Bool) → is_ascii_digit b ≡ t → total_degree m.exponents ≤ total_degree (run_after letters m word).exponents
+        → total_degree (raised m (place letters b) (front_number word)).exponents ≤ total_degree (run_after letters (raised m (place letters b) (front_number word)) word).exponents
+        → total_degree m.exponents ≤ total_degree (run_after letters m (b ∷ word)).exponents
+    by_case true is here next = rw (run_digit letters m b word is) here
+    by_case false is here next =
+        let kept : total_degree m.exponents ≤ total_degree (raised m (place letters b) (front_number word)).exponents = degree_kept m.exponents (place letters b) (front_number word) in
+        rw (run_letter letters m b word is) (omega (arith, kept, next))
+
+pub run_next : (letters word : List ℕ) (m : Monomial) (b i : ℕ) → i < length word → b ≡ get_or word i 0 → drop i word ≡ b ∷ drop (i + 1) word
+run_next letters word m b i within is = rw (add-one, drop-cons word i 0) (ap (λ (x : ℕ). x ∷ drop (suc i) word) (sym is))
+
+pub bytes_next : (letters word : List ℕ) (b : ℕ) → are_run_bytes letters (b ∷ word) ≡ true → are_run_bytes letters word ≡ true
+bytes_next letters word b = by_case (is_ascii_digit b || is_among letters b)
+  where
+    by_case : (t : Bool) → (t && are_run_bytes letters word) ≡ true → are_run_bytes letters word ≡ true
+    by_case true h = h
+    by_case false h = absurd (cc)
+
+pub letter_byte : (letters word : List ℕ) (b : ℕ) → are_run_bytes letters (b ∷ word) ≡ true → is_ascii_digit b ≡ false → is_among letters b ≡ true
+letter_byte letters word b h no_digit = by_case (is_among letters b) refl (ap (λ (t : Bool). (t || is_among letters b) && are_run_bytes letters word) (sym no_digit) ∙ h)
+  where
+    by_case : (t : Bool) → is_among letters b ≡ t → (is_among letters b && are_run_bytes letters word) ≡ true → is_among letters b ≡ true
+    by_case true is both = is
+    by_case false is both = absurd (let e : (false && are_run_bytes letters word) ≡ true = ap (λ (t : Bool). t && are_run_bytes letters word) (sym is) ∙ both in cc)
+
+pub variable_degree : (v : ℕ) → v < 6 → total_degree (variable v).exponents ≡ 1
+variable_degree zero within = refl
+variable_degree (suc zero) within = refl
+variable_degree (suc (suc zero)) within = refl
+variable_degree (suc (suc (suc zero))) within = refl
+variable_degree (suc (suc (suc (suc zero)))) within = refl
+variable_degree (suc (suc (suc (suc (suc zero))))) within = refl
+variable_degree (suc (suc (suc (suc (suc (suc v)))))) within = absurd (omega arith)
+
+-- ---- the steps of the code
+
+pub none_behind : (letters behind : List ℕ) (m : Monomial) (b : ℕ) → length letters ≤ 6 → are_run_bytes letters (b ∷ behind) ≡ true → IsMono m → is_ascii_digit b ≡ false
+    → 60 < total_degree m.exponents + front_number behind → 60 < total_degree (run_after letters m (b ∷ behind)).exponents
+none_behind letters behind m b few bytes known no_digit large =
+    let here : place letters b < length letters = place_within letters b (letter_byte letters behind b bytes no_digit) in
+    let v : place letters b < 6 = omega arith in
+    let degree : total_degree (raised m (place letters b) (front_number behind)).exponents ≡ total_degree m.exponents + front_number behind =
+    raised_degree m (place letters b) (front_number behind) known.seven v in
+    let more : total_degree (raised m (place letters b) (front_number behind)).exponents ≤ total_degree (run_after letters (raised m (place letters b) (front_number behind)) behind).exponents =
+    run_grows letters (raised m (place letters b) (front_number behind)) behind in
+    rw (run_letter letters m b behind no_digit) (omega arith)
+
+pub some_behind : (letters behind : List ℕ) (m next : Monomial) (b : ℕ) → is_ascii_digit b ≡ false → next ≡ raised m (place letters b) (front_number behind)
+    → run_after letters next behind ≡ run_after letters m (b ∷ behind)
+some_behind letters behind m next b no_digit is = ap (λ (n : Monomial). run_after letters n behind) is ∙ sym (run_letter letters m b behind no_digit)
+
+pub letter_place : (letters : List ℕ) (b : ℕ) → length letters ≤ 6 → is_among letters b ≡ true → place letters b < 6
+letter_place letters b few among = let here : place letters b < length letters = place_within letters b among in omega arith
+
+pub run_large : (letters word : List ℕ) (m : Monomial) (b i : ℕ) → i < length word → b ≡ get_or word i 0 → run_after letters m (drop i word) ≡ run_monomial letters word
+    → 60 < total_degree (run_after letters m (b ∷ drop (i + 1) word)).exponents → 60 < total_degree (run_monomial letters word).exponents
+run_large letters word m b i within is same large =
+    let e : run_after letters m (b ∷ drop (i + 1) word) ≡ run_monomial letters word = ap (run_after letters m) (sym (run_next letters word m b i within is)) ∙ same in
+    omega (arith, ap (λ (n : Monomial). total_degree n.exponents) e)
+
+pub run_on : (letters word : List ℕ) (m next : Monomial) (b i : ℕ) → i < length word → b ≡ get_or word i 0 → run_after letters m (drop i word) ≡ run_monomial letters word
+    → run_after letters next (drop (i + 1) word) ≡ run_after letters m (b ∷ drop (i + 1) word) → run_after letters next (drop (i + 1) word) ≡ run_monomial letters word
+run_on letters word m next b i within is same step = step ∙ ap (run_after letters m) (sym (run_next letters word m b i within is)) ∙ same
+
+pub bytes_here : (letters word : List ℕ) (b i : ℕ) → i < length word → b ≡ get_or word i 0 → are_run_bytes letters (drop i word) ≡ true
+    → are_run_bytes letters (b ∷ drop (i + 1) word) ≡ true
+bytes_here letters word b i within is bytes = ap (are_run_bytes letters) (sym (run_next letters word unit b i within is)) ∙ bytes
+
+pub run_all : (letters word : List ℕ) (m : Monomial) (i : ℕ) → length word ≤ i → run_after letters m (drop i word) ≡ run_monomial letters word → m ≡ run_monomial letters word
+run_all letters word m i all same = sym (run_end letters m) ∙ ap (run_after letters m) (sym (drop_all i word all)) ∙ same
+
+pub either_behind : (letters behind : List ℕ) (m : Monomial) (b : ℕ) (o : Option Monomial) → length letters ≤ 6 → are_run_bytes letters (b ∷ behind) ≡ true → IsMono m
+    → is_ascii_digit b ≡ false → MatchOption o (60 < total_degree m.exponents + front_number behind) (λ n. n ≡ raised m (place letters b) (front_number behind))
+    → MatchOption o (60 < total_degree (run_after letters m (b ∷ behind)).exponents) (λ n. run_after letters n behind ≡ run_after letters m (b ∷ behind))
+either_behind letters behind m b None few bytes known no_digit large = none_behind letters behind m b few bytes known no_digit large
+either_behind letters behind m b (Some n) few bytes known no_digit is = some_behind letters behind m n b no_digit is
