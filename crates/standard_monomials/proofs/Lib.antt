@@ -8,3 +8,8 @@ pub mod Finite
 pub mod Bases
 pub mod Search
 pub mod Examples
+pub mod Leads
+pub mod Rising
+pub mod Steps
+pub mod Answered
+pub mod Minimal

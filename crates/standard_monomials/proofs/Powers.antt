@@ -13,7 +13,7 @@ length_power (suc k) zero e = ap suc (length_zeros k)
     length_zeros (suc k) = ap suc (length_zeros k)
 length_power (suc k) (suc v) e = ap suc (length_power k v e)
 
-only_zeros : (n k : ℕ) → OnlyFirst n (replicate k 0)
+pub only_zeros : (n k : ℕ) → OnlyFirst n (replicate k 0)
 only_zeros n zero = tt
 only_zeros zero (suc k) = (refl, only_zeros zero k)
 only_zeros (suc n) (suc k) = only_zeros n k

@@ -7,7 +7,7 @@ use Rattle.polys.specs.Terms.{IsAffine, IsPoly}
 use Rattle.polys.specs.Ideal.{HasDim, HasInfiniteDim}
 use Rattle.polys.specs.Reduced.{Reduced}
 use Rattle.graded_modules.specs.Vector.{lead_mono}
-use Rattle.standard_monomials.specs.Standard.{IsStandardBasis, IsStandard, AreSomeStandard, AreStandard, polynomial_of, HasPurePower, HasNoPurePower, IsPowerOf, IsRemainder}
+use Rattle.standard_monomials.specs.Standard.{IsStandardBasis, IsStandard, AreSomeStandard, AreStandard, AreMinimal, polynomial_of, HasPurePower, HasNoPurePower, IsPowerOf, IsRemainder}
 
 -- a reduced basis is a standard basis of its ideal
 abbrev pub ReducedIsStandard : Type 0
@@ -17,6 +17,10 @@ ReducedIsStandard = (p n : ℕ) (ds : List (List Term)) → IsPrime p → Reduce
 abbrev pub MonomialsAreStandard : Type 0
 MonomialsAreStandard =
     (p n : ℕ) (ms : List Monomial) → IsPrime p → All (IsAffine n) ms → IsStandardBasis p n (map polynomial_of ms) (map polynomial_of ms)
+
+-- monomials that rise, and of which none divides a later one, are a reduced basis
+abbrev pub MonomialsAreReduced : Type 0
+MonomialsAreReduced = (p n : ℕ) (ms : List Monomial) → IsPrime p → All (IsAffine n) ms → AreMinimal ms → Reduced p n (map polynomial_of ms)
 
 -- each polynomial has a remainder, and only one
 abbrev pub RemaindersAreUnique : Type 0

@@ -1,3 +1,4 @@
 pub mod Examples
+pub mod Finding
 pub mod Laws
 pub mod Standard

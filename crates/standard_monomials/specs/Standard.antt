@@ -1,6 +1,7 @@
 -- Standard bases and standard monomials (Greuel and Pfister, section on standard bases).
 use Rattle.std.specs.Prelude.{◌≡◌, ◌≢◌, ◌↔◌, ℕ, List, [], ◌∷◌, replicate, slice_index, slice_set, All, AllPairs, Contains}
-use Rattle.monomials.specs.Mono.{Monomial}
+use Rattle.std.specs.declared.cmp.Ordering.TheVariants.{Less}
+use Rattle.monomials.specs.Mono.{Monomial, Divides, cmp_dp}
 use Rattle.polys.specs.declared.term.Term.{Term}
 use Rattle.polys.specs.Terms.{EachMono, IsAffine, IsPoly, IsMonic, sub}
 use Rattle.polys.specs.Ideal.{InIdeal}
@@ -31,6 +32,14 @@ pub record AreSomeStandard (n : ℕ) (ds : List (List Term)) (ms : List Monomial
 pub record AreStandard (n : ℕ) (ds : List (List Term)) (ms : List Monomial) : Type 0 where
   pub distinct : AreDistinct ms
   pub exact : (m : Monomial) → Contains ms m ↔ IsStandard n ds m
+
+-- the monomials rise in dp
+abbrev pub IsRising : List Monomial → Type 0
+IsRising ms = AllPairs (λ m w. cmp_dp m w ≡ Less) ms
+
+-- the monomials rise, and none divides a later one
+abbrev pub AreMinimal : List Monomial → Type 0
+AreMinimal ms = AllPairs (λ m w. (cmp_dp m w ≡ Less) × (Divides m w → ⊥)) ms
 
 -- the monomial as a polynomial
 abbrev pub polynomial_of : Monomial → List Term

@@ -1,6 +1,6 @@
 // Laws of standard monomials: each function has an empty body, and its contract is the law.
 ghost use Rattle.standard_monomials.specs.Examples.{StaircaseByHand, CrossByHand};
-ghost use Rattle.standard_monomials.specs.Laws.{ReducedIsStandard, MonomialsAreStandard, RemaindersAreUnique, StandardMonomialsCount, MissingPowersMakeItInfinite, PurePowersMakeItFinite, PurePowersAreLeads, StandardMonomialsAreFound, DimensionsAreUnique};
+ghost use Rattle.standard_monomials.specs.Laws.{ReducedIsStandard, MonomialsAreStandard, MonomialsAreReduced, RemaindersAreUnique, StandardMonomialsCount, MissingPowersMakeItInfinite, PurePowersMakeItFinite, PurePowersAreLeads, StandardMonomialsAreFound, DimensionsAreUnique};
 
 /// A reduced basis is a standard basis of its ideal.
 pub fn reduced_bases_are_standard_bases()
@@ -10,6 +10,11 @@ pub fn reduced_bases_are_standard_bases()
 /// Monomials are a standard basis of their ideal.
 pub fn monomials_are_standard_bases()
     ensures { MonomialsAreStandard }
+{}
+
+/// Monomials that rise, and of which none divides a later one, are the reduced basis of their ideal.
+pub fn monomials_are_reduced_bases()
+    ensures { MonomialsAreReduced }
 {}
 
 /// Each polynomial has exactly one remainder whose monomials are standard: they are a basis modulo the ideal.

@@ -1,0 +1,16 @@
+pub mod Rank
+pub mod Merging
+pub mod Steps
+pub mod Reductions
+pub mod Pairing
+pub mod Growth
+pub mod Joining
+pub mod Adding
+pub mod Advancing
+pub mod Cores
+pub mod Tails
+pub mod Interreducing
+pub mod Reduced
+pub mod Whole
+pub mod Affine
+pub mod Tested

@@ -1,0 +1,121 @@
+-- Pairs of members of a basis.
+use Rattle.std.proofs.Common.{◌≡◌, ◌≢◌, ◌⊎◌, inl, inr, ℕ, ◌+◌, ◌-◌, ◌<◌, ◌≤◌, zero, suc, List, [], ◌∷◌, max, length, get_or, refl, sym, ap, ◌∙◌, subst, arith}
+use Rattle.std.specs.List.{Contains}
+use Rattle.std.proofs.lemmas.List.{get_or-map, length-map}
+use Rattle.std.proofs.lemmas.List.Elements.{Contains-get_or}
+use Rattle.prime_field.specs.Primes.{IsPrime}
+use Rattle.monomials.specs.Mono.{Monomial, IsMono, Divides, pointwise, times, total_degree, common_multiple}
+use Rattle.monomials.proofs.Exponents.{length-pointwise}
+use Rattle.monomials.proofs.Order.{times_comm, times_cancel}
+use Rattle.polys.specs.declared.term.Term.{Term}
+use Rattle.polys.specs.Poly.{Polynomial}
+use Rattle.graded_modules.specs.Vector.{degree_at, lead_mono}
+use Rattle.graded_modules.specs.SVector.{IsSettled, cofactor, lead_lcm}
+use Rattle.graded_modules.specs.Bases.{IsBasisBelow}
+use Rattle.graded_modules.specs.Laws.{ArePaired}
+use Rattle.graded_modules.proofs.Cofactors.{times_cofactor, lcm_comm}
+use Rattle.graded_modules.proofs.Settled.{settled_law}
+use Rattle.module_basis.specs.Gens.{term_lists}
+use Rattle.module_basis.specs.declared.gens.Gens.{Gens}
+use Rattle.module_basis.specs.declared.pairs.Pair.{Pair}
+use Rattle.module_basis.specs.Growing.{member, IsPair, IsSettledPair, IsGrown}
+
+pub total_max : (a b : List ℕ) → total_degree (pointwise max a b) ≤ total_degree a + total_degree b
+total_max [] b = omega arith
+total_max (x ∷ a) [] = omega arith
+total_max (x ∷ a) (y ∷ b) = let ih = total_max a b in omega arith
+
+-- the quotient is the cofactor
+pub quotient_is : (l m q : Monomial) → length l.exponents ≡ 7 → IsMono m → IsMono q → Divides l m → times q l ≡ m → q ≡ cofactor l m
+quotient_is l m q e hm hq d is =
+    times_cancel q (cofactor l m) l (hq.seven ∙ sym (length-pointwise (λ x y. y - x) 7 l.exponents m.exponents e hm.seven))
+    (is ∙ sym (times_cofactor l m (e ∙ sym hm.seven) d) ∙ times_comm l (cofactor l m))
+
+pub member_is : (fs : List Polynomial) (i : ℕ) (f : Polynomial) → i < length fs → f ≡ get_or fs i f → member (term_lists fs) i ≡ f.terms
+member_is fs i f h e = get_or-map (λ (g : Polynomial). g.terms) fs i f [] h ∙ ap (λ (g : Polynomial). g.terms) (sym e)
+
+pub count_lists : (fs : List Polynomial) → length (term_lists fs) ≡ length fs
+count_lists fs = length-map fs (λ (g : Polynomial). g.terms)
+
+pub member_in : (bs : List (List Term)) (i : ℕ) → i < length bs → Contains bs (member bs i)
+member_in bs i h = Contains-get_or bs i [] h
+
+module _ (p n shift : ℕ) (prime : IsPrime p) (gs bs : List (List Term)) (e : ℕ) (b : IsBasisBelow p n shift gs bs e) where
+  pub paired : (i j : ℕ) → i < length bs → j < length bs → (lead_mono (member bs i)).component ≡ (lead_mono (member bs j)).component
+      → ArePaired p n shift (member bs i) (member bs j)
+  paired i j hi hj c = record {
+    prime = prime;
+    first = b.vectors i [] hi;
+    second = b.vectors j [] hj;
+    first_monic = b.monic i [] hi;
+    second_monic = b.monic j [] hj;
+    one_component = c;
+  }
+
+  -- pairs below the degree are settled in both orders
+  pub settled_both : (i j : ℕ) → i < length bs → j < length bs → i ≢ j → (lead_mono (member bs i)).component ≡ (lead_mono (member bs j)).component
+      → degree_at shift (lead_lcm (member bs i) (member bs j)) < e → IsSettled p n shift bs (member bs i) (member bs j)
+  settled_both i j hi hj differ c l = go (either i j differ)
+    where
+      either : (i j : ℕ) → i ≢ j → (i < j) ⊎ (j < i)
+      either zero zero d = absurd (d refl)
+      either zero (suc j) d = inl (omega arith)
+      either (suc i) zero d = inr (omega arith)
+      either (suc i) (suc j) d = elim (either i j (λ e. d (ap suc e))) [ inl h ↦ inl (omega arith) | inr h ↦ inr (omega arith) ]
+
+      go : (i < j) ⊎ (j < i) → IsSettled p n shift bs (member bs i) (member bs j)
+      go (inl h) = b.settled i j [] h hj c l
+      go (inr h) =
+          settled_law.swapped p n shift bs (member bs j) (member bs i) b.vectors (paired j i hj hi (sym c))
+          (b.settled j i [] h hi (sym c) (subst (λ m. degree_at shift m < e) (lcm_comm (lead_mono (member bs i)) (lead_mono (member bs j)) c) l))
+
+  pub chained : (i j k : ℕ) → i < length bs → j < length bs → k < length bs → (lead_mono (member bs i)).component ≡ (lead_mono (member bs j)).component
+      → e ≡ degree_at shift (lead_lcm (member bs i) (member bs j)) → Divides (lead_mono (member bs k)) (lead_lcm (member bs i) (member bs j))
+      → degree_at shift (lead_lcm (member bs i) (member bs k)) < e → degree_at shift (lead_lcm (member bs k) (member bs j)) < e
+      → IsSettled p n shift bs (member bs i) (member bs j)
+  chained i j k hi hj hk c q d left right =
+      let ck : (lead_mono (member bs i)).component ≡ (lead_mono (member bs k)).component = sym d.same in
+      settled_law.chain p n shift bs (member bs i) (member bs j) (member bs k) b.vectors (paired i j hi hj c) (paired i k hi hk ck) d
+      (settled_both i k hi hk (λ e'. not_self i j k e' q right) ck left)
+      (settled_both k j hk hj (λ e'. not_other i j k e' q left) (d.same ∙ c) right)
+    where
+      not_self : (i j k : ℕ) → i ≡ k → e ≡ degree_at shift (lead_lcm (member bs i) (member bs j)) → degree_at shift (lead_lcm (member bs k) (member bs j)) < e → ⊥
+      not_self i j k s q l = let x = ap (λ m. degree_at shift (lead_lcm (member bs m) (member bs j))) s in absurd (omega arith)
+
+      not_other : (i j k : ℕ) → k ≡ j → e ≡ degree_at shift (lead_lcm (member bs i) (member bs j)) → degree_at shift (lead_lcm (member bs i) (member bs k)) < e → ⊥
+      not_other i j k s q l = let x = ap (λ m. degree_at shift (lead_lcm (member bs i) (member bs m))) s in absurd (omega arith)
+
+-- the link that the program found
+pub linked : (gens : Gens) (fs : List Polynomial) (q : Pair) (k : ℕ) (f g h : Polynomial) (a b c m : Monomial) → IsPrime gens.prime
+    → IsGrown gens q.degree (term_lists fs) → IsPair gens.shift (term_lists fs) q → k < length fs
+    → f ≡ get_or fs q.first f → g ≡ get_or fs q.second g → h ≡ get_or fs k h → a ≡ lead_mono f.terms → b ≡ lead_mono g.terms → c ≡ lead_mono h.terms
+    → m ≡ common_multiple a b → Divides c m × (degree_at gens.shift (common_multiple a c) < q.degree) × (degree_at gens.shift (common_multiple c b) < q.degree)
+    → IsSettledPair gens (term_lists fs) q.first q.second
+linked gens fs q k f g h a b c m prime grown pair hk ef eg eh ea eb ec em found =
+    let bs = term_lists fs in
+    let n = count_lists fs in
+    let inside = pair.inside in
+    let rising = pair.rising in
+    let hj : q.second < length fs = omega arith in
+    let hi : q.first < length fs = omega arith in
+    let la : a ≡ lead_mono (member bs q.first) = ea ∙ ap lead_mono (sym (member_is fs q.first f hi ef)) in
+    let lb : b ≡ lead_mono (member bs q.second) = eb ∙ ap lead_mono (sym (member_is fs q.second g hj eg)) in
+    let lc : c ≡ lead_mono (member bs k) = ec ∙ ap lead_mono (sym (member_is fs k h hk eh)) in
+    let lm : m ≡ lead_lcm (member bs q.first) (member bs q.second) = em ∙ (λ i. common_multiple (la i) (lb i)) in
+    chained gens.prime gens.variables gens.shift prime (term_lists gens.vectors) bs q.degree grown.below q.first q.second k (omega arith) inside (omega arith) pair.one_component pair.degree
+    (coe_two (λ x y. Divides x y) c (lead_mono (member bs k)) m (lead_lcm (member bs q.first) (member bs q.second)) lc lm found.0)
+    (coe_two (λ x y. degree_at gens.shift (common_multiple x y) < q.degree) a (lead_mono (member bs q.first)) c (lead_mono (member bs k)) la lc found.1)
+    (coe_two (λ x y. degree_at gens.shift (common_multiple x y) < q.degree) c (lead_mono (member bs k)) b (lead_mono (member bs q.second)) lc lb found.2)
+  where
+    coe_two : (P : Monomial → Monomial → Type 0) (x x' y y' : Monomial) → x ≡ x' → y ≡ y' → P x y → P x' y'
+    coe_two P x x' y y' p q h = subst (P x') q (subst (λ z. P z y) p h)
+
+-- the leads of a grown basis have low degrees
+pub low_lead : (gens : Gens) (e : ℕ) (fs : List Polynomial) (i : ℕ) (f : Polynomial) → IsGrown gens e (term_lists fs) → i < length fs → f ≡ get_or fs i f
+    → total_degree (lead_mono f.terms).exponents ≤ e
+low_lead gens e fs i f grown h ef =
+    let n = count_lists fs in
+    let bs = term_lists fs in
+    let l : degree_at gens.shift (lead_mono (member bs i)) ≤ e = grown.low i [] (omega arith) in
+    let s : degree_at gens.shift (lead_mono f.terms) ≤ e = subst (λ b. degree_at gens.shift (lead_mono b) ≤ e) (member_is fs i f h ef) l in
+    omega arith

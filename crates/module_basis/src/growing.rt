@@ -1,0 +1,281 @@
+// The growing basis: all of one degree before the next one.
+ghost use Rattle.std.specs.Prelude.{◌≡◌, ◌⊎◌, ◌+◌, ◌<◌, ◌≤◌, List, [], ◌∷◌, ◌++◌, length, All, Contains, OnOk, IfErr};
+ghost use Rattle.polys.specs.declared.term.Term.{Term};
+ghost use Rattle.graded_modules.specs.Vector.{degree_at, lead_mono};
+ghost use Rattle.graded_modules.specs.Module.{InModule};
+ghost use Rattle.module_basis.specs.declared.gens.BasisStop.TheVariants.{Deep};
+ghost use Rattle.module_basis.specs.Gens.{AreGens, IsHomogeneousOver, term_lists};
+ghost use Rattle.module_basis.specs.Growing.{member, AreOfOneComponent, IsPair, IsSettledPair, IsAwaited, AreAwaited, IsGrowing, IsReady, GainsPairs, Gains, IsMemberAt, IsNewAt, IsBelowAll, HasHighLeads};
+
+use crate::division::remainder;
+use crate::leads::{degree_at, lead_mono};
+use crate::pairs::{Pair, are_coprime, is_chained, s_vector};
+use crate::{BasisStop, Gens};
+use monomials::Mono;
+use norm_outside::NoMemory;
+use polys::{Poly, Term};
+use std::alloc::Global;
+use std::mem;
+
+// Monic vectors of which no lead divides another one, and the pairs of them that wait.
+#[derive(Drop)]
+pub(crate) struct Growing {
+    pub(crate) cap: u32,
+    pub(crate) basis: Vec<Poly>,
+    pub(crate) pairs: Vec<Pair>,
+}
+
+impl Growing {
+    // No vector yet.
+    pub(crate) fn new(alloc: Global, cap: u32) -> Growing
+        ensures cap { result.cap ≡ cap }
+        ensures basis { result.basis.items ≡ [] }
+        ensures pairs { result.pairs.items ≡ [] }
+    {
+        Growing {
+            cap,
+            basis: Vec::new(alloc),
+            pairs: Vec::new(alloc),
+        }
+    }
+
+    // Goes from degree e to the next one.
+    pub(crate) fn advance(&mut self, gens: &Gens, e: u32) -> Result<(), BasisStop>
+        requires gens { AreGens gens.now }
+        requires cap { self.old.cap ≤ 1000 }
+        requires degree { e ≤ self.old.cap }
+        requires ready { IsReady gens.now e self.old }
+        ensures ready { OnOk result (IsReady gens.now (e + 1) self.new) }
+        ensures low { OnOk result (All (λ b. degree_at gens.now.shift (lead_mono b) ≤ e) (term_lists self.new.basis.items)) }
+        ensures cap { OnOk result (self.new.cap ≡ self.old.cap) }
+        ensures deep { IfErr result (λ stop. stop ≡ Deep → HasHighLeads gens.now self.old.cap) }
+    {
+        let _modulus = gens.prime.get();
+        self.take_generators(gens, e)?;
+        self.settle_pairs(gens, e)?;
+        Ok(())
+    }
+
+    // Takes in the generators of degree e.
+    fn take_generators(&mut self, gens: &Gens, e: u32) -> Result<(), BasisStop>
+        requires gens { AreGens gens.now }
+        requires cap { self.old.cap ≤ 1000 }
+        requires degree { e ≤ self.old.cap }
+        requires growing { IsGrowing gens.now e self.old }
+        ensures growing { OnOk result (IsGrowing gens.now e self.new) }
+        ensures gains { OnOk result (Gains gens.now e self.old self.new) }
+        ensures members { OnOk result ((f : List Term) → Contains (term_lists gens.now.vectors) f → degree_at gens.now.shift (lead_mono f) ≡ e → InModule gens.now.prime gens.now.variables (term_lists self.new.basis.items) f) }
+        ensures deep { IfErr result (λ stop. stop ≡ Deep → HasHighLeads gens.now self.old.cap) }
+    {
+        let _modulus = gens.prime.get();
+        let vectors = gens.vectors.as_slice();
+        for k in 0..vectors.len() {
+            self.take_generator(gens, &vectors[k], e)?;
+        }
+        Ok(())
+    }
+
+    // Takes in the generator, if it has degree e.
+    fn take_generator(&mut self, gens: &Gens, v: &Poly, e: u32) -> Result<(), BasisStop>
+        requires gens { AreGens gens.now }
+        requires cap { self.old.cap ≤ 1000 }
+        requires degree { e ≤ self.old.cap }
+        requires growing { IsGrowing gens.now e self.old }
+        requires vector { IsHomogeneousOver gens.now.prime gens.now.variables gens.now.shift v.now }
+        requires member { InModule gens.now.prime gens.now.variables (term_lists gens.now.vectors) v.now.terms }
+        ensures growing { OnOk result (IsGrowing gens.now e self.new) }
+        ensures gains { OnOk result (Gains gens.now e self.old self.new) }
+        ensures member { OnOk result (degree_at gens.now.shift (lead_mono v.now.terms) ≡ e → InModule gens.now.prime gens.now.variables (term_lists self.new.basis.items) v.now.terms) }
+        ensures deep { IfErr result (λ stop. stop ≡ Deep → HasHighLeads gens.now self.old.cap) }
+    {
+        if degree_at(gens.shift, &lead_mono(v)) != u64::from(e) {
+            return Ok(());
+        }
+        let terms = v.clone_poly()?.into_terms();
+        self.take(gens, terms, e)?;
+        Ok(())
+    }
+
+    // Settles the pairs of degree e; later ones go on waiting. New pairs have degrees above e.
+    fn settle_pairs(&mut self, gens: &Gens, e: u32) -> Result<(), BasisStop>
+        requires gens { AreGens gens.now }
+        requires cap { self.old.cap ≤ 1000 }
+        requires degree { e ≤ self.old.cap }
+        requires ready { IsReady gens.now e self.old }
+        ensures growing { OnOk result (IsGrowing gens.now e self.new) }
+        ensures cap { OnOk result (self.new.cap ≡ self.old.cap) }
+        ensures vectors { OnOk result ((b : List Term) → Contains (term_lists self.old.basis.items) b → Contains (term_lists self.new.basis.items) b) }
+        ensures late { OnOk result (All (λ q. e < q.degree) self.new.pairs.items) }
+        ensures awaited { OnOk result (AreAwaited gens.now self.old.cap (term_lists self.new.basis.items) self.new.pairs.items (length self.new.basis.items)) }
+        ensures deep { IfErr result (λ stop. stop ≡ Deep → HasHighLeads gens.now self.old.cap) }
+    {
+        let _modulus = gens.prime.get();
+        let alloc = *self.pairs.allocator();
+        let waiting = mem::replace(&mut self.pairs, Vec::new(alloc));
+        for k in 0..waiting.len() {
+            self.go_through(gens, waiting[k], e)?;
+        }
+        Ok(())
+    }
+
+    // Settles the pair, if it has degree e, or lets it go on waiting.
+    fn go_through(&mut self, gens: &Gens, pair: Pair, e: u32) -> Result<(), BasisStop>
+        requires gens { AreGens gens.now }
+        requires cap { self.old.cap ≤ 1000 }
+        requires low { e ≤ self.old.cap }
+        requires growing { IsGrowing gens.now e self.old }
+        requires pair { IsPair gens.now.shift (term_lists self.old.basis.items) pair }
+        requires degree { e ≤ pair.degree }
+        ensures growing { OnOk result (IsGrowing gens.now e self.new) }
+        ensures gains { OnOk result (Gains gens.now e self.old self.new) }
+        ensures done { OnOk result (IsSettledPair gens.now (term_lists self.new.basis.items) pair.first pair.second ⊎ Contains self.new.pairs.items pair) }
+        ensures deep { IfErr result (λ stop. stop ≡ Deep → HasHighLeads gens.now self.old.cap) }
+    {
+        if pair.degree > u64::from(e) {
+            self.wait(pair)?;
+            return Ok(());
+        }
+        self.settle(gens, pair, e)?;
+        Ok(())
+    }
+
+    // Settles the pair of degree e, unless a criterion says that it is.
+    fn settle(&mut self, gens: &Gens, pair: Pair, e: u32) -> Result<(), BasisStop>
+        requires gens { AreGens gens.now }
+        requires cap { self.old.cap ≤ 1000 }
+        requires low { e ≤ self.old.cap }
+        requires growing { IsGrowing gens.now e self.old }
+        requires pair { IsPair gens.now.shift (term_lists self.old.basis.items) pair }
+        requires degree { pair.degree ≡ e }
+        ensures growing { OnOk result (IsGrowing gens.now e self.new) }
+        ensures gains { OnOk result (Gains gens.now e self.old self.new) }
+        ensures settled { OnOk result (IsSettledPair gens.now (term_lists self.new.basis.items) pair.first pair.second) }
+        ensures deep { IfErr result (λ stop. stop ≡ Deep → HasHighLeads gens.now self.old.cap) }
+    {
+        let _modulus = gens.prime.get();
+        if is_chained(gens, &self.basis, pair) {
+            return Ok(());
+        }
+        let s = s_vector(gens, &self.basis[pair.first], &self.basis[pair.second])?;
+        self.take(gens, s.into_terms(), e)?;
+        Ok(())
+    }
+
+    // Takes in what the basis leaves of a vector of degree e, unless that is 0.
+    fn take(&mut self, gens: &Gens, v: Vec<Term>, e: u32) -> Result<(), BasisStop>
+        requires gens { AreGens gens.now }
+        requires cap { self.old.cap ≤ 1000 }
+        requires degree { e ≤ self.old.cap }
+        requires growing { IsGrowing gens.now e self.old }
+        requires vector { IsMemberAt gens.now e v.items }
+        ensures growing { OnOk result (IsGrowing gens.now e self.new) }
+        ensures gains { OnOk result (Gains gens.now e self.old self.new) }
+        ensures member { OnOk result (InModule gens.now.prime gens.now.variables (term_lists self.new.basis.items) v.items) }
+        ensures below { OnOk result (IsBelowAll gens.now e (term_lists self.new.basis.items) v.items) }
+        ensures deep { IfErr result (λ stop. stop ≡ Deep → HasHighLeads gens.now self.old.cap) }
+    {
+        let _modulus = gens.prime.get();
+        let alloc = *self.basis.allocator();
+        let rest = remainder(alloc, gens.prime, v, &self.basis)?;
+        if rest.is_empty() {
+            return Ok(());
+        }
+        let b = Poly::of_terms(gens.prime, rest).monic()?;
+        self.add(gens, b, e)?;
+        Ok(())
+    }
+
+    // Adds a monic vector of degree e whose lead is no multiple of a lead.
+    fn add(&mut self, gens: &Gens, b: Poly, e: u32) -> Result<(), BasisStop>
+        requires gens { AreGens gens.now }
+        requires cap { self.old.cap ≤ 1000 }
+        requires degree { e ≤ self.old.cap }
+        requires growing { IsGrowing gens.now e self.old }
+        requires fresh { IsNewAt gens.now e (term_lists self.old.basis.items) b }
+        ensures growing { OnOk result (IsGrowing gens.now e self.new) }
+        ensures gains { OnOk result (Gains gens.now e self.old self.new) }
+        ensures vectors { OnOk result (self.new.basis.items ≡ self.old.basis.items ++ b ∷ []) }
+        ensures deep { IfErr result (λ stop. stop ≡ Deep → HasHighLeads gens.now self.old.cap) }
+    {
+        let _modulus = gens.prime.get();
+        self.push(b)?;
+        self.pair_up(gens, e)?;
+        Ok(())
+    }
+
+    // Puts the vector at the end.
+    fn push(&mut self, b: Poly) -> Result<(), NoMemory>
+        ensures cap { self.new.cap ≡ self.old.cap }
+        ensures vectors { OnOk result (self.new.basis.items ≡ self.old.basis.items ++ b ∷ []) }
+        ensures pairs { self.new.pairs.items ≡ self.old.pairs.items }
+    {
+        self.basis.push(b).map_err(|_| NoMemory)
+    }
+
+    // Puts the pair at the end.
+    fn wait(&mut self, pair: Pair) -> Result<(), NoMemory>
+        ensures cap { self.new.cap ≡ self.old.cap }
+        ensures vectors { self.new.basis.items ≡ self.old.basis.items }
+        ensures pairs { OnOk result (self.new.pairs.items ≡ self.old.pairs.items ++ pair ∷ []) }
+    {
+        self.pairs.push(pair).map_err(|_| NoMemory)
+    }
+
+    // Forms the pairs of the last vector, which has the degree e, with the others.
+    fn pair_up(&mut self, gens: &Gens, e: u32) -> Result<(), BasisStop>
+        requires gens { AreGens gens.now }
+        requires cap { self.old.cap ≤ 1000 }
+        requires degree { e ≤ self.old.cap }
+        requires growing { IsGrowing gens.now e self.old }
+        requires some { 0 < length self.old.basis.items }
+        requires last { (k : _) → k + 1 ≡ length self.old.basis.items → degree_at gens.now.shift (lead_mono (member (term_lists self.old.basis.items) k)) ≡ e }
+        ensures growing { OnOk result (IsGrowing gens.now e self.new) }
+        ensures gains { OnOk result (GainsPairs e self.old self.new) }
+        ensures awaited { OnOk result ((i k : _) → k + 1 ≡ length self.old.basis.items → i < k → AreOfOneComponent (term_lists self.old.basis.items) i k → IsAwaited gens.now self.old.cap (term_lists self.old.basis.items) self.new.pairs.items i k) }
+        ensures deep { IfErr result (λ stop. stop ≡ Deep → HasHighLeads gens.now self.old.cap) }
+    {
+        let last = self.basis.len() - 1;
+        for first in 0..last {
+            self.join(gens, first, last, e)?;
+        }
+        Ok(())
+    }
+
+    // Lets the pair wait, where it is one and the product criterion does not settle it. The second vector has degree e.
+    fn join(&mut self, gens: &Gens, first: usize, second: usize, e: u32) -> Result<(), BasisStop>
+        requires gens { AreGens gens.now }
+        requires cap { self.old.cap ≤ 1000 }
+        requires degree { e ≤ self.old.cap }
+        requires growing { IsGrowing gens.now e self.old }
+        requires rising { first < second }
+        requires inside { second < length self.old.basis.items }
+        requires last { degree_at gens.now.shift (lead_mono (member (term_lists self.old.basis.items) second)) ≡ e }
+        ensures growing { OnOk result (IsGrowing gens.now e self.new) }
+        ensures gains { OnOk result (GainsPairs e self.old self.new) }
+        ensures awaited { OnOk result (AreOfOneComponent (term_lists self.old.basis.items) first second → IsAwaited gens.now self.old.cap (term_lists self.old.basis.items) self.new.pairs.items first second) }
+        ensures deep { IfErr result (λ stop. stop ≡ Deep → HasHighLeads gens.now self.old.cap) }
+    {
+        let _modulus = gens.prime.get();
+        let f = &self.basis[first];
+        let g = &self.basis[second];
+        let a = lead_mono(f);
+        let b = lead_mono(g);
+        if a.component() != b.component() {
+            return Ok(());
+        }
+        let m = Mono::lcm(&a, &b);
+        let degree = degree_at(gens.shift, &m);
+        if degree > u64::from(self.cap) {
+            return Err(BasisStop::Deep);
+        }
+        if are_coprime(f, g, &m) {
+            return Ok(());
+        }
+        self.wait(Pair {
+            first,
+            second,
+            degree,
+        })?;
+        Ok(())
+    }
+}
