@@ -1,0 +1,6 @@
+mod Members
+mod Lows
+mod Memberships
+mod Listings
+mod Choices
+mod Bases
