@@ -4,3 +4,4 @@ mod Memberships
 mod Listings
 mod Choices
 mod Bases
+mod Tested

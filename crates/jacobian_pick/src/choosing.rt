@@ -59,8 +59,8 @@ impl From<NoMemory> for PickStop {
     }
 }
 
-// The reduced basis of the ideal of the problem.
-fn ideal_basis(alloc: Global, problem: &Problem, cap: u32) -> Result<List<Poly>, PickStop>
+/// The reduced basis of the ideal of the problem.
+pub fn ideal_basis(alloc: Global, problem: &Problem, cap: u32) -> Result<List<Poly>, PickStop>
     requires ready { IsReady problem.now }
     requires some_cap { 1 ≤ cap }
     requires cap { cap ≤ 1000 }

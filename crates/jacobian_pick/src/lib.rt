@@ -10,3 +10,6 @@ mod sums;
 
 pub use choosing::{PickStop, pick};
 pub use listing::candidates;
+
+#[cfg(test)]
+mod tests;
