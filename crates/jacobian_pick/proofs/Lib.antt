@@ -1,0 +1,7 @@
+mod Members
+mod Lows
+mod Memberships
+mod Listings
+mod Choices
+mod Bases
+mod Tested

@@ -1,0 +1,25 @@
+use Rattle.std.proofs.Common.{◌≡◌, ◌++◌, length, sym, subst}
+use Rattle.std.specs.List.{All}
+use Rattle.module_basis.specs.Gens.{term_lists}
+use Rattle.jacobian_pick.specs.Candidates.{AreCandidates, AreSecond, AreThird}
+use Rattle.jacobian_pick.specs.Lists.{IsUpTo, problem_data}
+use Rattle.jacobian_pick.proofs.Listings.{all_up_to, all_candidates}
+use Rattle.jacobian_pick.proofs.listing.candidates.Goals as goal
+
+pub returns-clause-low : goal.returns-clause-low
+returns-clause-low c =
+    let a = c.in_ok-append.ensures.items in
+    let b = c.in_ok-append-2.ensures.items in
+    let e : c.of_vec.result ≡ c.in_ok-first.first ++ c.in_ok-second.second ++ c.in_ok-third.third = cc in
+    subst (All (IsUpTo c.args.problem.now.prime (length c.args.problem.now.letters) 119)) (sym e)
+    (all_up_to c.args.problem.now.prime (length c.args.problem.now.letters) c.in_ok-first.first c.in_ok-second.second c.in_ok-third.third c.in_ok-first.ensures.low c.in_ok-second.ensures.low c.in_ok-third.ensures.low)
+
+pub returns-clause-exact : goal.returns-clause-exact
+returns-clause-exact c =
+    let a = c.in_ok-append.ensures.items in
+    let b = c.in_ok-append-2.ensures.items in
+    let e : c.of_vec.result ≡ c.in_ok-first.first ++ c.in_ok-second.second ++ c.in_ok-third.third = cc in
+    subst (λ w. AreCandidates (problem_data c.args.problem.now) (term_lists w)) (sym e)
+    (all_candidates c.args.problem.now c.in_ok-first.first c.in_ok-second.second c.in_ok-third.third c.in_ok-first.ensures.exact
+    (subst (λ w. AreSecond (problem_data c.args.problem.now) (term_lists w) (term_lists c.in_ok-second.second)) c.as_slice.ensures c.in_ok-second.ensures.exact)
+    (subst (λ w. AreThird (problem_data c.args.problem.now) (term_lists w) (term_lists c.in_ok-third.third)) c.as_slice-2.ensures c.in_ok-third.ensures.exact))

@@ -1,0 +1,216 @@
+// The choice of a denominator.
+ghost use Rattle.std.specs.Prelude.{◌≡◌, ◌≤◌, ◌<◌, ℕ, All, IfOk, IfErr, IfSome, IsNone, Some, None, length};
+ghost use Rattle.jacobian_pick.specs.Candidates.{AreCandidates};
+ghost use Rattle.jacobian_pick.specs.Choice.{HasDeepIdeal, HasUnitIdeal, HasProperIdeal, IsGood, IsFirstGood, IsChosen, HasNoDenominator, IsReason, IsCause, IsLiftedOf, IsFound, IsPicked, curve_of_lifted};
+ghost use Rattle.jacobian_pick.specs.Lists.{IsBasisOf, IsReady, IsUpTo, problem_data};
+ghost use Rattle.lift_colon.specs.Lifted.{IsLifted};
+ghost use Rattle.module_basis.specs.Gens.{term_lists};
+ghost use Rattle.polys.specs.Curve.{Fit, IsOver};
+ghost use Rattle.polys.specs.Terms.{IsMonicOf};
+
+use crate::jacobian::one;
+use crate::listing::candidates;
+use crate::membership::{is_member, variables_of};
+use lift_colon::{Dimension, Lifted};
+use module_basis::{BasisStop, Gens, graded_basis};
+use norm_outside::{List, NoMemory};
+use polys::Poly;
+use singular_text::Problem;
+use std::alloc::Global;
+use thiserror::Error;
+
+/// Why a problem has no denominator.
+#[derive(Clone, Copy, Debug, Drop, PartialEq, Eq, Error)]
+pub enum PickStop {
+    /// The homogenised generators are deep under the cap.
+    #[error("deep ideal")]
+    Deep,
+    /// The polynomial 1 is in the ideal.
+    #[error("unit ideal")]
+    Unit,
+    /// The module of the denominator is deep under the cap.
+    #[error("deep denominator")]
+    DenominatorDeep,
+    /// The denominator is a zero divisor modulo the ideal.
+    #[error("zero divisor")]
+    ZeroDivisor,
+    /// The dimension modulo the ideal and the denominator is infinite.
+    #[error("infinite")]
+    Infinite,
+    /// This dimension is finite and above 256.
+    #[error("wide")]
+    Wide,
+    /// None is handed in, and no candidate is good.
+    #[error("no denominator")]
+    NoDenominator,
+    /// No memory was to be had.
+    #[error("no memory")]
+    Memory,
+}
+
+impl From<NoMemory> for PickStop {
+    ghost use Rattle.std.specs.Prelude.{◌≡◌};
+    ghost use Rattle.jacobian_pick.specs.declared.choosing.PickStop.TheVariants.{Memory};
+
+    ghost from_gives = { λ _ stop. stop ≡ Memory };
+
+    fn from(_: NoMemory) -> PickStop {
+        PickStop::Memory
+    }
+}
+
+/// The reduced basis of the ideal of the problem.
+pub fn ideal_basis(alloc: Global, problem: &Problem, cap: u32) -> Result<List<Poly>, PickStop>
+    requires ready { IsReady problem.now }
+    requires some_cap { 1 ≤ cap }
+    requires cap { cap ≤ 1000 }
+    ensures basis { IfOk result (λ basis. IsBasisOf problem.now basis) }
+    ensures not_deep { IfOk result (λ basis. HasDeepIdeal (problem_data problem.now) cap → ⊥) }
+    ensures cause { IfErr result (λ stop. IsCause (problem_data problem.now) cap stop) }
+{
+    let _p = problem.prime.get();
+    let variables = variables_of(problem);
+    let gens = Gens::homogenised(
+        alloc,
+        problem.prime,
+        variables,
+        problem.generators.as_slice(),
+    )?;
+    match graded_basis(alloc, &gens, cap) {
+        Ok(graded) => Ok(graded.dehomogenised()?),
+        Err(BasisStop::Deep) => Err(PickStop::Deep),
+        Err(BasisStop::Memory) => Err(PickStop::Memory),
+    }
+}
+
+// The bases for the denominator `d`, or why it is not good.
+fn tried(alloc: Global, problem: &Problem, d: &Poly, cap: u32) -> Result<Lifted, PickStop>
+    requires ready { IsReady problem.now }
+    requires denominator { IsOver problem.now.prime (length problem.now.letters) d.now }
+    requires not_deep { HasDeepIdeal (problem_data problem.now) cap → ⊥ }
+    requires some_cap { 1 ≤ cap }
+    requires cap { cap ≤ 1000 }
+    ensures lifted { IfOk result (λ l. IsLiftedOf (problem_data problem.now) l) }
+    ensures known { IfOk result (λ l. IsLifted l) }
+    ensures denominator { IfOk result (λ l. l.denominator ≡ d.now) }
+    ensures good { IfOk result (λ l. IsGood (problem_data problem.now) cap d.now.terms) }
+    ensures reason { IfErr result (λ stop. IsReason (problem_data problem.now) cap d.now.terms stop) }
+{
+    let _p = problem.prime.get();
+    let generators = problem.generators.as_slice();
+    let lifted = match Lifted::make(
+        alloc,
+        problem.prime,
+        variables_of(problem),
+        generators,
+        d,
+        cap,
+    ) {
+        Ok(lifted) => lifted,
+        Err(BasisStop::Deep) => return Err(PickStop::DenominatorDeep),
+        Err(BasisStop::Memory) => return Err(PickStop::Memory),
+    };
+    let _basis = lifted.ideal_basis();
+    if !lifted.is_regular()? {
+        return Err(PickStop::ZeroDivisor);
+    }
+    match lifted.dimension(alloc, 256)? {
+        Dimension::Finite(_) => Ok(lifted),
+        Dimension::Wide => Err(PickStop::Wide),
+        Dimension::Infinite => Err(PickStop::Infinite),
+    }
+}
+
+// The bases for the first good polynomial of the list, or `None` where none is good.
+fn first_good(
+    alloc: Global,
+    problem: &Problem,
+    list: &[Poly],
+    cap: u32,
+) -> Result<Option<Lifted>, NoMemory>
+    requires ready { IsReady problem.now }
+    requires list { All (IsUpTo problem.now.prime (length problem.now.letters) 119) list.now }
+    requires not_deep { HasDeepIdeal (problem_data problem.now) cap → ⊥ }
+    requires some_cap { 1 ≤ cap }
+    requires cap { cap ≤ 1000 }
+    ensures found { IfOk result (λ found. IfSome found (λ l. IsFound (problem_data problem.now) cap (term_lists list.now) l)) }
+    ensures none { IfOk result (λ found. IsNone found → All (λ d. IsGood (problem_data problem.now) cap d → ⊥) (term_lists list.now)) }
+{
+    for d in list {
+        match tried(alloc, problem, d, cap) {
+            Ok(lifted) => return Ok(Some(lifted)),
+            Err(stop) => {
+                if stop == PickStop::Memory {
+                    return Err(NoMemory);
+                }
+            }
+        }
+    }
+    Ok(None)
+}
+
+// The bases for the first good candidate.
+fn by_candidates(
+    alloc: Global,
+    problem: &Problem,
+    basis: &[Poly],
+    cap: u32,
+) -> Result<Lifted, PickStop>
+    requires ready { IsReady problem.now }
+    requires basis { IsBasisOf problem.now basis.now }
+    requires none { problem.now.denominator ≡ None }
+    requires proper { HasProperIdeal (problem_data problem.now) cap }
+    requires some_cap { 1 ≤ cap }
+    requires cap { cap ≤ 1000 }
+    ensures found { IfOk result (λ l. IsPicked (problem_data problem.now) cap l) }
+    ensures cause { IfErr result (λ stop. IsCause (problem_data problem.now) cap stop) }
+{
+    let list = candidates(alloc, problem, basis)?;
+    match first_good(alloc, problem, list.as_slice(), cap)? {
+        Some(lifted) => Ok(lifted),
+        None => Err(PickStop::NoDenominator),
+    }
+}
+
+// The bases for the denominator that is handed in.
+fn by_hand(alloc: Global, problem: &Problem, d: &Poly, cap: u32) -> Result<Lifted, PickStop>
+    requires ready { IsReady problem.now }
+    requires given { problem.now.denominator ≡ Some d.now }
+    requires proper { HasProperIdeal (problem_data problem.now) cap }
+    requires some_cap { 1 ≤ cap }
+    requires cap { cap ≤ 1000 }
+    ensures found { IfOk result (λ l. IsPicked (problem_data problem.now) cap l) }
+    ensures cause { IfErr result (λ stop. IsCause (problem_data problem.now) cap stop) }
+{
+    let _p = problem.prime.get();
+    let monic = d.monic()?;
+    tried(alloc, problem, &monic, cap)
+}
+
+/// The bases of the ideal of the problem and of its denominator: of the monic multiple of the one that is handed in, or
+/// else of the first good candidate. A denominator is good where its module is not deep under the cap, it is regular,
+/// and the dimension modulo the ideal and it is at most 256.
+///
+/// # Errors
+/// In this order, each exactly where it says and none before it comes: `Deep` where the homogenised generators are deep
+/// under the cap; `Unit` where 1 is in the ideal; for a denominator that is handed in `DenominatorDeep`, `ZeroDivisor`,
+/// `Infinite`, `Wide`; `NoDenominator` where none is handed in and no candidate is good. `Memory` for want of memory.
+pub fn pick(alloc: Global, problem: &Problem, cap: u32) -> Result<Lifted, PickStop>
+    requires ready { IsReady problem.now }
+    requires some_cap { 1 ≤ cap }
+    requires cap { cap ≤ 1000 }
+    ensures lifted { IfOk result (λ l. IsLiftedOf (problem_data problem.now) l) }
+    ensures proper { IfOk result (λ l. HasProperIdeal (problem_data problem.now) cap) }
+    ensures chosen { IfOk result (λ l. IsChosen (problem_data problem.now) cap l.denominator.terms) }
+    ensures fit { IfOk result (λ l. Fit (curve_of_lifted l)) }
+    ensures cause { IfErr result (λ stop. IsCause (problem_data problem.now) cap stop) }
+{
+    let basis = ideal_basis(alloc, problem, cap)?;
+    if is_member(problem, basis.as_slice(), &one(alloc, problem.prime)?)? {
+        return Err(PickStop::Unit);
+    }
+    match &problem.denominator {
+        Some(d) => by_hand(alloc, problem, d, cap),
+        None => by_candidates(alloc, problem, basis.as_slice(), cap),
+    }
+}

@@ -1,0 +1,15 @@
+//! The choice of a denominator for a curve: the one that is handed in, or the first good candidate that the Jacobian
+//! matrix gives.
+#![tactic(auto)]
+
+mod choosing;
+mod jacobian;
+mod listing;
+mod membership;
+mod sums;
+
+pub use choosing::{PickStop, pick};
+pub use listing::candidates;
+
+#[cfg(test)]
+mod tests;

@@ -1,0 +1,98 @@
+// The candidates for a denominator.
+ghost use Rattle.std.specs.Prelude.{◌≡◌, ◌≤◌, ℕ, All, IfOk, length, take};
+ghost use Rattle.jacobian_pick.specs.Candidates.{AreFirst, AreSecond, AreThird, AreCandidates};
+ghost use Rattle.jacobian_pick.specs.Lists.{IsBasisOf, IsReady, IsUpTo, problem_data};
+ghost use Rattle.module_basis.specs.Gens.{term_lists};
+
+use crate::jacobian::jacobian;
+use crate::membership::{kept, variables_of};
+use crate::sums::{sums_by_numbers, sums_by_variables};
+use norm_outside::{List, NoMemory};
+use polys::Poly;
+use singular_text::Problem;
+use std::alloc::Global;
+
+// The first six, or all where there are fewer.
+fn six(list: &[Poly]) -> &[Poly]
+    ensures { result.now ≡ take 6 list.now }
+{
+    &list[..list.len().min(6)]
+}
+
+// What the Jacobian matrix gives: without the members of the ideal, and monic.
+fn first_list(alloc: Global, problem: &Problem, basis: &[Poly]) -> Result<List<Poly>, NoMemory>
+    requires ready { IsReady problem.now }
+    requires basis { IsBasisOf problem.now basis.now }
+    ensures low { IfOk result (λ ms. All (IsUpTo problem.now.prime (length problem.now.letters) 118) ms) }
+    ensures exact { IfOk result (λ ms. AreFirst (problem_data problem.now) (term_lists ms)) }
+{
+    let _p = problem.prime.get();
+    let variables = variables_of(problem);
+    let raw = jacobian(
+        alloc,
+        problem.prime,
+        variables,
+        problem.generators.as_slice(),
+    )?;
+    kept(alloc, problem, basis, raw.as_slice())
+}
+
+// The sums of two of the first six of the list by numbers: without the members of the ideal, and monic.
+fn second_list(
+    alloc: Global,
+    problem: &Problem,
+    basis: &[Poly],
+    first: &[Poly],
+) -> Result<List<Poly>, NoMemory>
+    requires ready { IsReady problem.now }
+    requires basis { IsBasisOf problem.now basis.now }
+    requires first { All (IsUpTo problem.now.prime (length problem.now.letters) 118) first.now }
+    ensures low { IfOk result (λ ms. All (IsUpTo problem.now.prime (length problem.now.letters) 119) ms) }
+    ensures exact { IfOk result (λ ms. AreSecond (problem_data problem.now) (term_lists first.now) (term_lists ms)) }
+{
+    let _p = problem.prime.get();
+    let raw = sums_by_numbers(alloc, problem.prime, variables_of(problem), six(first))?;
+    kept(alloc, problem, basis, raw.as_slice())
+}
+
+// The sums of two of the first six of the list by variables: without the members of the ideal, and monic.
+fn third_list(
+    alloc: Global,
+    problem: &Problem,
+    basis: &[Poly],
+    first: &[Poly],
+) -> Result<List<Poly>, NoMemory>
+    requires ready { IsReady problem.now }
+    requires basis { IsBasisOf problem.now basis.now }
+    requires first { All (IsUpTo problem.now.prime (length problem.now.letters) 118) first.now }
+    ensures low { IfOk result (λ ms. All (IsUpTo problem.now.prime (length problem.now.letters) 119) ms) }
+    ensures exact { IfOk result (λ ms. AreThird (problem_data problem.now) (term_lists first.now) (term_lists ms)) }
+{
+    let _p = problem.prime.get();
+    let raw = sums_by_variables(alloc, problem.prime, variables_of(problem), six(first))?;
+    kept(alloc, problem, basis, raw.as_slice())
+}
+
+/// The candidates for a denominator, each monic and of degree at most 119, where `basis` is the reduced basis of the
+/// ideal of the problem.
+///
+/// They come from the Jacobian matrix (Greuel and Pfister, section on the singular locus): with one variable the
+/// polynomial 1, with two the partial derivatives, with three the minors of two rows, with more nothing. Then follow
+/// sums of two of the first six of these by numbers, and then those by variables. Members of the ideal are left out.
+///
+/// # Errors
+/// `NoMemory` for want of memory.
+pub fn candidates(alloc: Global, problem: &Problem, basis: &[Poly]) -> Result<List<Poly>, NoMemory>
+    requires ready { IsReady problem.now }
+    requires basis { IsBasisOf problem.now basis.now }
+    ensures low { IfOk result (λ cs. All (IsUpTo problem.now.prime (length problem.now.letters) 119) cs) }
+    ensures exact { IfOk result (λ cs. AreCandidates (problem_data problem.now) (term_lists cs)) }
+{
+    let first = first_list(alloc, problem, basis)?;
+    let second = second_list(alloc, problem, basis, first.as_slice())?;
+    let third = third_list(alloc, problem, basis, first.as_slice())?;
+    let mut all = first.into_vec();
+    all.append(&mut second.into_vec())?;
+    all.append(&mut third.into_vec())?;
+    Ok(List::of_vec(all))
+}
