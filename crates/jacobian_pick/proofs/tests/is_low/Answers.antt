@@ -1,4 +1,4 @@
-use Rattle.std.proofs.Common.{◌≡◌, ◌≤◌, IsTrue, length, take, subst}
+use Rattle.std.proofs.Common.{◌≤◌, IsTrue, length, take, subst}
 use Rattle.monomials.specs.Mono.{total_degree}
 use Rattle.polys.specs.Terms.{EachMono, IsAffine}
 use Rattle.polys.proofs.Each.{every_more_item}

@@ -1,4 +1,4 @@
-use Rattle.std.proofs.Common.{◌≡◌, ◌<◌, ◌≤◌, get_or, arith}
+use Rattle.std.proofs.Common.{arith}
 use Rattle.jacobian_pick.proofs.Tested.{affine}
 use Rattle.jacobian_pick.proofs.tests.is_low_monomial.Goals as goal
 
