@@ -106,17 +106,17 @@ IsReason problem cap d Unit = ⊥
 IsReason problem cap d NoDenominator = ⊥
 
 -- the ideal is proper, and the denominator that is handed in is no good for this reason
-abbrev pub HandsInBad : ProblemData → ℕ → PickStop → Type 0
-HandsInBad problem cap stop = HasProperIdeal problem cap × ((d : List Term) × IsHandedIn problem d × IsReason problem cap d stop)
+abbrev pub HasBadDenominator : ProblemData → ℕ → PickStop → Type 0
+HasBadDenominator problem cap stop = HasProperIdeal problem cap × ((d : List Term) × IsHandedIn problem d × IsReason problem cap d stop)
 
 -- why a problem has no denominator: each cause comes only where none before it does, and want of memory is free
 abbrev pub IsCause : ProblemData → ℕ → PickStop → Type 0
 IsCause problem cap Deep = HasDeepIdeal problem cap
 IsCause problem cap Unit = (HasDeepIdeal problem cap → ⊥) × HasUnitIdeal problem
-IsCause problem cap DenominatorDeep = HandsInBad problem cap DenominatorDeep
-IsCause problem cap ZeroDivisor = HandsInBad problem cap ZeroDivisor
-IsCause problem cap Infinite = HandsInBad problem cap Infinite
-IsCause problem cap Wide = HandsInBad problem cap Wide
+IsCause problem cap DenominatorDeep = HasBadDenominator problem cap DenominatorDeep
+IsCause problem cap ZeroDivisor = HasBadDenominator problem cap ZeroDivisor
+IsCause problem cap Infinite = HasBadDenominator problem cap Infinite
+IsCause problem cap Wide = HasBadDenominator problem cap Wide
 IsCause problem cap NoDenominator = HasProperIdeal problem cap × HasNoDenominator problem cap
 IsCause problem cap Memory = ⊤
 

@@ -1,12 +1,10 @@
 // The choice of a denominator.
-ghost use Rattle.std.specs.Prelude.{◌≡◌, ◌≤◌, ◌<◌, ℕ, All, IfOk, IfErr, IfSome, IsNone, Some, None, length};
-ghost use Rattle.jacobian_pick.specs.Candidates.{AreCandidates};
-ghost use Rattle.jacobian_pick.specs.Choice.{HasDeepIdeal, HasUnitIdeal, HasProperIdeal, IsGood, IsFirstGood, IsChosen, HasNoDenominator, IsReason, IsCause, IsLiftedOf, IsFound, IsPicked, curve_of_lifted};
+ghost use Rattle.std.specs.Prelude.{◌≡◌, ◌≤◌, All, IfOk, IfErr, IfSome, IsNone, Some, None, length};
+ghost use Rattle.jacobian_pick.specs.Choice.{HasDeepIdeal, HasProperIdeal, IsGood, IsChosen, IsReason, IsCause, IsLiftedOf, IsFound, IsPicked, curve_of_lifted};
 ghost use Rattle.jacobian_pick.specs.Lists.{IsBasisOf, IsReady, IsUpTo, problem_data};
 ghost use Rattle.lift_colon.specs.Lifted.{IsLifted};
 ghost use Rattle.module_basis.specs.Gens.{term_lists};
 ghost use Rattle.polys.specs.Curve.{Fit, IsOver};
-ghost use Rattle.polys.specs.Terms.{IsMonicOf};
 
 use crate::jacobian::one;
 use crate::listing::candidates;
