@@ -1,5 +1,4 @@
-pub mod Digits
-pub mod FormLemmas
-pub mod TellingLemmas
-pub mod Constant
-pub mod PlaneAnswer
+pub mod WordLemmas
+pub mod ProblemLemmas
+pub mod InputLemmas
+pub mod RunLemmas

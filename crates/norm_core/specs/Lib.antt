@@ -1,3 +1,3 @@
-pub mod Form
+pub mod Words
+pub mod Refusals
 pub mod Telling
-pub mod Plane

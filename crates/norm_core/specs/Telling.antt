@@ -1,65 +1,86 @@
 -- What a run tells of its input.
-use Rattle.std.specs.Prelude.{ℕ, ◌≡◌, ◌≢◌, ◌%◌, ◌<◌, ◌≤◌, ◌⊎◌, List, [], ◌∷◌, length, take, codes, Option, Some, IfSome}
+use Rattle.std.specs.Prelude.{ℕ, ◌≡◌, ◌≢◌, ◌<◌, ◌≤◌, ◌⊎◌, List, [], length, take, Option, None, Some, Result, Ok, Err}
 use Rattle.std.specs.Io.KnownBytes.{Consumes, IsAtEnd, Appends}
-use Rattle.prime_field.specs.Primes.{IsCharacteristic}
 use Rattle.polys.specs.declared.term.Term.{Term}
-use Rattle.polys.specs.Terms.{IsMonicOf}
-use Rattle.singular_text.specs.Problem.{ProblemData}
+use Rattle.polys.specs.Curve.{HasDimModulo}
+use Rattle.singular_text.specs.Problem.{ProblemData, curve_of}
+use Rattle.singular_text.specs.ProblemText.{ProblemText, IsTextOf, HasText, first_fault, problem_of}
+use Rattle.singular_text.specs.declared.faults.ReadFault.{ReadFault}
+use Rattle.singular_text.specs.declared.faults.ReadFault.TheVariants.{Syntax}
 use Rattle.norm_text.specs.Answers.{IsAnswerText}
-use Rattle.norm_core.specs.Form.{HasForm, number_of, problem_of}
+use Rattle.jacobian_pick.specs.Choice.{HasProperIdeal, IsChosen, IsCause}
+use Rattle.jacobian_pick.specs.declared.choosing.PickStop.{PickStop}
+use Rattle.jacobian_pick.specs.declared.choosing.PickStop.TheVariants.{Memory}
+use Rattle.norm_core.specs.declared.refusals.Refusal.{Refusal}
+use Rattle.norm_core.specs.Refusals.{usage_line, bytes_line, not_yet_line, fault_line, fault_status, stop_line, stop_status, status_of}
+use Rattle.norm_core.specs.Words.{AskUnder, AskNothing}
 
--- the words are the one command that is served
-abbrev pub IsAlone : List (List ℕ) → Type 0
-IsAlone words = words ≡ codes "alone" ∷ []
+-- ---- problems
+
+-- the ideal of the problem is proper, and d is its denominator
+pub record HasDenominator (problem : ProblemData) (cap : ℕ) (d : List Term) : Type 0 where
+  pub proper : HasProperIdeal problem cap
+  pub chosen : IsChosen problem cap d
+
+-- points are named, or something is left modulo I + (d): no answer is given to such a problem yet
+abbrev pub IsOpen : ProblemData → List Term → Type 0
+IsOpen problem d = (problem.at ≢ []) ⊎ ((N : ℕ) × (0 < N) × HasDimModulo (curve_of problem d) N)
+
+-- no points are named, and nothing is left modulo I + (d)
+pub record IsClosed (problem : ProblemData) (d : List Term) : Type 0 where
+  pub unnamed : problem.at ≡ []
+  pub nothing_left : HasDimModulo (curve_of problem d) 0
+
+-- the status and the text that a problem has: it has no denominator, and this is the cause; it is not served yet; or it
+-- has an answer
+pub data Solves (problem : ProblemData) (cap status : ℕ) (text : List ℕ) : Type 0 where
+  stopped : (stop : PickStop) → stop ≢ Memory → IsCause problem cap stop → status ≡ stop_status stop → text ≡ stop_line stop
+      → Solves problem cap status text
+  not_yet : (d : List Term) → HasDenominator problem cap d → IsOpen problem d → status ≡ 40 → text ≡ not_yet_line
+      → Solves problem cap status text
+  answered : (d : List Term) → HasDenominator problem cap d → IsClosed problem d → status ≡ 0 → IsAnswerText problem d text
+      → Solves problem cap status text
+
+-- ---- inputs
 
 -- the most bytes that are read
 abbrev pub byte_limit : ℕ
 byte_limit = 1048576
 
--- the lines of the refusals
-abbrev pub usage_line : List ℕ
-usage_line = codes "refused: usage\n"
+-- the status and the text that an input has: it is too long; it is not of the grammar; this is the first that is wrong
+-- with its text; or what the problem has that the text states
+pub data Tells (cap : ℕ) (input : List ℕ) (status : ℕ) (text : List ℕ) : Type 0 where
+  too_long : byte_limit < length input → status ≡ 4 → text ≡ bytes_line → Tells cap input status text
+  no_text : length input ≤ byte_limit → (HasText input → ⊥) → status ≡ 3 → text ≡ fault_line Syntax → Tells cap input status text
+  faulty : (t : ProblemText) (fault : ReadFault) → length input ≤ byte_limit → IsTextOf input t → first_fault t ≡ Some fault
+      → status ≡ fault_status fault → text ≡ fault_line fault → Tells cap input status text
+  stated : (t : ProblemText) → length input ≤ byte_limit → IsTextOf input t → first_fault t ≡ None
+      → Solves (problem_of t) cap status text → Tells cap input status text
 
-abbrev pub limit_line : List ℕ
-limit_line = codes "refused: limit bytes\n"
-
-abbrev pub not_yet_line : List ℕ
-not_yet_line = codes "refused: not yet\n"
-
-abbrev pub characteristic_line : List ℕ
-characteristic_line = codes "refused: characteristic\n"
-
--- the input has the form for no two numbers
-abbrev pub HasNoForm : List ℕ → Type 0
-HasNoForm input = (p c : List ℕ) → ¬ HasForm input p c
-
--- the text is the answer to the problem, with the denominator that it hands in made monic
-abbrev pub IsAnswerTo : ProblemData → List ℕ → Type 0
-IsAnswerTo problem text = (d : List Term) × IfSome problem.denominator (λ c. IsMonicOf problem.prime c d) × IsAnswerText problem d text
-
--- what is told of an input, as a status and a text: it is too long; it has no form; its characteristic is
--- not served; its denominator is 0 modulo p; or it has an answer
-pub data Tells (input : List ℕ) (status : ℕ) (text : List ℕ) : Type 0 where
-  too_long : byte_limit < length input → status ≡ 4 → text ≡ limit_line → Tells input status text
-  no_form : length input ≤ byte_limit → HasNoForm input → status ≡ 40 → text ≡ not_yet_line → Tells input status text
-  no_characteristic : (p c : List ℕ) → length input ≤ byte_limit → HasForm input p c
-      → ¬ IsCharacteristic (number_of p) → status ≡ 4 → text ≡ characteristic_line → Tells input status text
-  zero_denominator : (p c : List ℕ) → length input ≤ byte_limit → HasForm input p c
-      → IsCharacteristic (number_of p) → number_of c % number_of p ≡ 0 → status ≡ 40 → text ≡ not_yet_line → Tells input status text
-  answer : (p c : List ℕ) → length input ≤ byte_limit → HasForm input p c
-      → IsCharacteristic (number_of p) → number_of c % number_of p ≢ 0 → status ≡ 0 → IsAnswerTo (problem_of p c) text → Tells input status text
+-- the input states a problem within the limits that has a denominator, names no points, and leaves nothing modulo the ideal
+-- and the denominator
+pub record HasAnswer (cap : ℕ) (input : List ℕ) : Type 0 where
+  pub parts : ProblemText
+  pub denominator : List Term
+  pub short : length input ≤ byte_limit
+  pub text : IsTextOf input parts
+  pub sound : first_fault parts ≡ None
+  pub chosen : HasDenominator (problem_of parts) cap denominator
+  pub closed : IsClosed (problem_of parts) denominator
 
 -- these bytes were taken from the source, to its end unless they are too long, and this is told of them
-pub record Told (left left_now : Option (List ℕ)) (status : ℕ) (text : List ℕ) : Type 0 where
+pub record Told (cap : ℕ) (left left_now : Option (List ℕ)) (status : ℕ) (text : List ℕ) : Type 0 where
   pub bytes : List ℕ
   pub taken : Consumes left left_now bytes
   pub ended : length bytes ≤ byte_limit → IsAtEnd left_now
-  pub tells : Tells bytes status text
+  pub tells : Tells cap bytes status text
+
+-- ---- runs
 
 -- what is told of these words and this source, before any fault of the sink
 abbrev pub ToTell : List (List ℕ) → Option (List ℕ) → Option (List ℕ) → ℕ → List ℕ → Type 0
 ToTell words left left_now status text =
-    (¬ IsAlone words × (status ≡ 2) × (text ≡ usage_line)) ⊎ (IsAlone words × Told left left_now status text)
+    (AskNothing words × (status ≡ 2) × (text ≡ usage_line)) ⊎ ((cap : ℕ) × AskUnder words cap × Told cap left left_now status text)
 
 -- the status of a run that neither a fault nor want of memory cut short; the sink gained the text
 abbrev pub IsTold : List (List ℕ) → Option (List ℕ) → Option (List ℕ) → Option (List ℕ) → Option (List ℕ) → ℕ → Type 0
@@ -79,5 +100,17 @@ abbrev pub IsStopped : ℕ → Type 0
 IsStopped status = (status ≡ 20) ⊎ (status ≡ 21) ⊎ (status ≡ 30)
 
 -- over a source that tells its bytes, what is told of the whole of them decides the status
-abbrev pub IsExact : Option (List ℕ) → ℕ → Type 0
-IsExact left result = (input text : List ℕ) (status : ℕ) → left ≡ Some input → Tells input status text → (result ≡ status) ⊎ IsStopped result
+abbrev pub IsExact : ℕ → Option (List ℕ) → ℕ → Type 0
+IsExact cap left result =
+    (input text : List ℕ) (status : ℕ) → left ≡ Some input → Tells cap input status text → (result ≡ status) ⊎ IsStopped result
+
+-- ---- answers before they are written
+
+-- the status of an answer
+abbrev pub outcome_status : {T : Type 0} → Result T Refusal → ℕ
+outcome_status (Ok text) = 0
+outcome_status (Err refusal) = status_of refusal
+
+-- the answer has this status, unless a read failed or memory ran out
+abbrev pub HasStatus : {T : Type 0} → Result T Refusal → ℕ → Type 0
+HasStatus result status = (outcome_status result ≡ status) ⊎ IsStopped (outcome_status result)

@@ -2,8 +2,10 @@
 #![tactic(auto)]
 
 mod answering;
-mod form;
+mod refusals;
 mod run;
+mod solving;
+mod words;
 
 pub use run::run_alone;
 

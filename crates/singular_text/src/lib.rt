@@ -19,6 +19,8 @@ pub use faults::{ReadFault, Which};
 pub use letters::Letters;
 pub use printing::{print_bytes, print_number, print_poly};
 pub use problem::{Problem, read_problem};
+pub use values::number_up_to;
+pub use words::is_number;
 
 #[cfg(test)]
 mod reading_tests;

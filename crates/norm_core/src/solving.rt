@@ -1,0 +1,111 @@
+// From a problem to its answer.
+ghost use Rattle.std.specs.Prelude.{◌≡◌, ◌≢◌, ◌↔◌, ◌≤◌, ◌⊎◌, ℕ, [], ◌∷◌, All, IfOk, IfErr, IsTrue, false};
+ghost use Rattle.polys.specs.Ideal.{HasDim};
+ghost use Rattle.polys.specs.Terms.{one};
+ghost use Rattle.module_basis.specs.Gens.{term_lists};
+ghost use Rattle.singular_text.specs.Problem.{IsFitProblem, data_of};
+ghost use Rattle.norm_text.specs.Answer.{answer_text};
+ghost use Rattle.norm_text.specs.Plain.{plain_answer};
+ghost use Rattle.norm_text.specs.Shown as shown;
+ghost use Rattle.norm_core.specs.Refusals.{line_of, status_of};
+ghost use Rattle.norm_core.specs.Telling.{HasDenominator, IsClosed, Solves, HasStatus};
+ghost use Rattle.polys.specs.declared.term.Term.{Term};
+
+use crate::refusals::Refusal;
+use jacobian_pick::pick;
+use lift_colon::{Dimension, Lifted};
+use monomials::Mono;
+use norm_outside::{List, NoMemory};
+use norm_text::{Answer, print_answer};
+use polys::{Poly, Term};
+use prime_field::Prime;
+use singular_text::{Letters, Problem};
+use std::alloc::Global;
+
+// The polynomial 1.
+fn one(alloc: Global, prime: Prime) -> Result<Poly, NoMemory>
+    ensures { IfOk result (λ f. f ≡ record { prime = prime; terms = one }) }
+{
+    let unit = Term {
+        coeff: 1,
+        mono: Mono::one(),
+    };
+    Poly::from_term(alloc, prime, unit)
+}
+
+// Whether nothing is left modulo the ideal and the denominator.
+fn is_nothing_left(alloc: Global, lifted: &Lifted) -> Result<bool, NoMemory>
+    ensures { IfOk result (λ yes. IsTrue yes ↔ HasDim lifted.now.prime lifted.now.variables (lifted.now.denominator.terms ∷ term_lists lifted.now.ideal) 0) }
+{
+    match lifted.dimension(alloc, 0)? {
+        Dimension::Finite(_) => Ok(true),
+        Dimension::Wide | Dimension::Infinite => Ok(false),
+    }
+}
+
+// Whether no points are named, and nothing is left modulo the ideal and the denominator.
+fn is_closed(alloc: Global, problem: &Problem, lifted: &Lifted) -> Result<bool, NoMemory>
+    ensures yes { IfOk result (λ yes. IsTrue yes → (problem.now.at ≡ []) × HasDim lifted.now.prime lifted.now.variables (lifted.now.denominator.terms ∷ term_lists lifted.now.ideal) 0) }
+    ensures no { IfOk result (λ yes. yes ≡ false → (problem.now.at ≢ []) ⊎ (HasDim lifted.now.prime lifted.now.variables (lifted.now.denominator.terms ∷ term_lists lifted.now.ideal) 0 → ⊥)) }
+{
+    if !problem.at.as_slice().is_empty() {
+        return Ok(false);
+    }
+    is_nothing_left(alloc, lifted)
+}
+
+// The answer to a problem whose denominator leaves nothing.
+fn plain(alloc: Global, problem: Problem, denominator: Poly) -> Result<Answer, NoMemory>
+    requires { denominator.prime ≡ problem.prime }
+    ensures data { IfOk result (λ a. shown.data_of a ≡ plain_answer (data_of problem) denominator.terms) }
+    ensures denominator { IfOk result (λ a. a.denominator.prime ≡ a.prime) }
+    ensures numerators { IfOk result (λ a. All (λ f. f.prime ≡ a.prime) a.numerators) }
+    ensures points { IfOk result (λ a. a.points ≡ []) }
+{
+    let Problem {
+        prime,
+        letters,
+        generators: _,
+        denominator: _,
+        at: _,
+    } = problem;
+    let mut numerators = List::new(alloc);
+    numerators.push(one(alloc, prime)?)?;
+    Ok(Answer {
+        prime,
+        letters,
+        denominator,
+        dimension: 0,
+        named: None,
+        points: List::new(alloc),
+        power: 0,
+        numerators,
+    })
+}
+
+// The text of that answer.
+fn plain_text(alloc: Global, problem: Problem, denominator: &Poly) -> Result<List<u8>, NoMemory>
+    requires { denominator.now.prime ≡ problem.prime }
+    ensures { IfOk result (λ text. text ≡ answer_text (plain_answer (data_of problem) denominator.now.terms)) }
+{
+    let answer = plain(alloc, problem, denominator.clone_poly()?)?;
+    print_answer(alloc, &answer)
+}
+
+/// The text of the answer to the problem under the degree cap, or why there is none.
+pub fn solve(alloc: Global, problem: Problem, cap: u32) -> Result<List<u8>, Refusal>
+    requires fit { IsFitProblem problem }
+    requires some_cap { 1 ≤ cap }
+    requires cap { cap ≤ 1000 }
+    ensures answered { IfOk result (λ text. Solves (data_of problem) cap 0 text) }
+    ensures refused { IfErr result (λ refusal. (status_of refusal ≡ 30) ⊎ Solves (data_of problem) cap (status_of refusal) (line_of refusal)) }
+    ensures exact { (status : ℕ) (text : List ℕ) → Solves (data_of problem) cap status text → HasStatus result status }
+    ensures complete { (d : List Term) → HasDenominator (data_of problem) cap d → IsClosed (data_of problem) d → HasStatus result 0 }
+{
+    let lifted = pick(alloc, &problem, cap)?;
+    let _basis = lifted.ideal_basis();
+    if !is_closed(alloc, &problem, &lifted)? {
+        return Err(Refusal::NotYet);
+    }
+    Ok(plain_text(alloc, problem, lifted.denominator())?)
+}
