@@ -6,11 +6,12 @@ use Rattle.std.proofs.lemmas.List.{take-append-drop, drop_more, map-append}
 use Rattle.std.proofs.lemmas.List.Elements.{All-nil, All-cons, All-head, All-tail, All-push}
 use Rattle.prime_field.specs.Primes.{IsPrime}
 use Rattle.polys.specs.declared.term.Term.{Term}
-use Rattle.polys.specs.Curve.{IsOver, Fit, HasRegular, HasDimModulo}
+use Rattle.polys.specs.Curve.{IsOver, Fit, HasRegular, HasDimModulo, data_of}
 use Rattle.polys.specs.Ideal.{InIdeal, Regular, HasDim, HasInfiniteDim, Spans}
 use Rattle.polys.specs.Poly.{Polynomial}
 use Rattle.polys.specs.Reduced.{IsReducedBasis}
-use Rattle.polys.specs.Terms.{IsPoly, IsMonicOf, mul, degree_of, one}
+use Rattle.polys.specs.Terms.{IsCanonical, IsPoly, IsMonicOf, mul, degree_of, one}
+use Rattle.polys.proofs.Affine.{affine_unit}
 use Rattle.polys.proofs.Ideals.{in_head, in_more, in_generator, in_larger, in_poly}
 use Rattle.denominator_module.proofs.Firsts.{all_from}
 use Rattle.module_basis.specs.Gens.{term_lists}
@@ -196,6 +197,13 @@ module _ (problem : Problem) (cap : ℕ) (none : problem.denominator ≡ None) (
 
 -- ---- the curve
 
+picked_prime : (problem : Problem) (cap : ℕ) (l : LiftedData) → IsPicked (problem_data problem) cap l → IsPrime problem.prime
+picked_prime problem cap l h = subst IsPrime h.lifted.prime h.known.prime
+
+picked_over : (problem : Problem) (cap : ℕ) (l : LiftedData) → IsPicked (problem_data problem) cap l → IsOver problem.prime (length problem.letters) l.denominator
+picked_over problem cap l h =
+    subst (λ (n : ℕ). IsOver problem.prime n l.denominator) h.lifted.variables (subst (λ (q : ℕ). IsOver q l.variables l.denominator) h.lifted.prime h.known.denominator)
+
 pub fit : (problem : Problem) (cap : ℕ) (l : LiftedData) → IsReady problem → HasProperIdeal (problem_data problem) cap → IsPicked (problem_data problem) cap l → Fit (curve_of_lifted l)
 fit problem cap l ready p h = record {
   some_variables = h.known.some_variables;
@@ -210,10 +218,24 @@ fit problem cap l ready p h = record {
 }
   where
     prime : IsPrime problem.prime
-    prime = subst IsPrime h.lifted.prime h.known.prime
+    prime = picked_prime problem cap l h
 
     od : IsOver problem.prime (length problem.letters) l.denominator
-    od = subst (λ (n : ℕ). IsOver problem.prime n l.denominator) h.lifted.variables (subst (λ (q : ℕ). IsOver q l.variables l.denominator) h.lifted.prime h.known.denominator)
+    od = picked_over problem cap l h
+
+-- the dimension modulo the denominator is that of the bases
+pub same_dimension : {E : Type 0} (problem : Problem) (cap : ℕ) (r : Result LiftedData E) → IsReady problem → IfOk r (λ l. IsPicked (problem_data problem) cap l)
+    → IfOk r (λ l. (N : ℕ) → HasDimModulo (data_of (curve_of_lifted l)) N ↔ HasDimModulo (curve_of (problem_data problem) l.denominator.terms) N)
+same_dimension problem cap (Err e) ready h = h
+same_dimension problem cap (Ok l) ready h =
+    λ N. (dimension problem prime ready l.denominator l od h.lifted.prime h.lifted.variables refl h.lifted.ideal N,
+    dimension_back problem prime ready l.denominator l od h.lifted.prime h.lifted.variables refl h.lifted.ideal N)
+  where
+    prime : IsPrime problem.prime
+    prime = picked_prime problem cap l h
+
+    od : IsOver problem.prime (length problem.letters) l.denominator
+    od = picked_over problem cap l h
 
 pub fit_all : {E : Type 0} (problem : Problem) (cap : ℕ) (r : Result LiftedData E) → IsReady problem → HasProperIdeal (problem_data problem) cap → IfOk r (λ l. IsPicked (problem_data problem) cap l)
     → IfOk r (λ l. Fit (curve_of_lifted l))
@@ -251,9 +273,19 @@ one_more_bad problem cap list i d h e bad worse =
 
 -- ---- 1 is not in the ideal
 
+pub one_over : (p n : ℕ) (f : Polynomial) → f ≡ record { prime = p; terms = one } → IsCanonical f.prime f.terms → IsOver p n f
+one_over p n f e c = record {
+  prime = ap (λ (g : Polynomial). g.prime) e;
+  poly = subst (λ (g : Polynomial). IsPoly p n g.terms) (sym e) (record { canonical = subst (λ (g : Polynomial). IsCanonical g.prime g.terms) e c; affine = (affine_unit n, tt) });
+}
+
 pub proper_by : (problem : Problem) (cap : ℕ) (f : Polynomial) (b : Bool) → (HasDeepIdeal (problem_data problem) cap → ⊥) → f ≡ record { prime = problem.prime; terms = one }
     → IsTrue b ↔ InIdeal problem.prime (length problem.letters) (term_lists problem.generators) f.terms → b ≡ false → HasProperIdeal (problem_data problem) cap
 proper_by problem cap f b h e m z = record {
   not_deep = h;
   not_unit = λ r. (let t : IsTrue b = m.1 (subst (λ (g : Polynomial). InIdeal problem.prime (length problem.letters) (term_lists problem.generators) g.terms) (sym e) r) in cc);
 }
+
+pub unit_by : (problem : Problem) (cap : ℕ) (f : Polynomial) (b : Bool) → (HasDeepIdeal (problem_data problem) cap → ⊥) → f ≡ record { prime = problem.prime; terms = one }
+    → IsTrue b ↔ InIdeal problem.prime (length problem.letters) (term_lists problem.generators) f.terms → IsTrue b → IsCause (problem_data problem) cap Unit
+unit_by problem cap f b h e m z = (h, subst (λ (g : Polynomial). InIdeal problem.prime (length problem.letters) (term_lists problem.generators) g.terms) e (m.0 z))

@@ -5,3 +5,5 @@ mod Listings
 mod Choices
 mod Bases
 mod Tested
+mod Monics
+mod Uniqueness

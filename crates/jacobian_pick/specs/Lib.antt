@@ -1,3 +1,4 @@
 pub mod Candidates
 pub mod Choice
 pub mod Lists
+pub mod Uniqueness

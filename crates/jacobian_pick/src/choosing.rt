@@ -1,10 +1,13 @@
 // The choice of a denominator.
-ghost use Rattle.std.specs.Prelude.{◌≡◌, ◌≤◌, All, IfOk, IfErr, IfSome, IsNone, Some, None, length};
+ghost use Rattle.std.specs.Prelude.{◌≡◌, ◌≢◌, ◌↔◌, ◌⊎◌, ◌≤◌, ℕ, All, Err, IfOk, IfErr, IfSome, IsNone, MatchResult, Some, None, length};
 ghost use Rattle.jacobian_pick.specs.Choice.{HasDeepIdeal, HasProperIdeal, IsGood, IsChosen, IsReason, IsCause, IsLiftedOf, IsFound, IsPicked, curve_of_lifted};
 ghost use Rattle.jacobian_pick.specs.Lists.{IsBasisOf, IsReady, IsUpTo, problem_data};
+ghost use Rattle.jacobian_pick.specs.declared.choosing.PickStop.TheVariants.{Memory};
 ghost use Rattle.lift_colon.specs.Lifted.{IsLifted};
 ghost use Rattle.module_basis.specs.Gens.{term_lists};
-ghost use Rattle.polys.specs.Curve.{Fit, IsOver};
+ghost use Rattle.polys.specs.Curve.{Fit, HasDimModulo, IsOver, data_of};
+ghost use Rattle.singular_text.specs.Problem.{curve_of};
+ghost use Rattle.polys.specs.declared.term.Term.{Term};
 
 use crate::jacobian::one;
 use crate::listing::candidates;
@@ -201,7 +204,13 @@ pub fn pick(alloc: Global, problem: &Problem, cap: u32) -> Result<Lifted, PickSt
     ensures proper { IfOk result (λ l. HasProperIdeal (problem_data problem.now) cap) }
     ensures chosen { IfOk result (λ l. IsChosen (problem_data problem.now) cap l.denominator.terms) }
     ensures fit { IfOk result (λ l. Fit (curve_of_lifted l)) }
+    // the dimension modulo the ideal and the denominator, by the bases and by the generators
+    ensures dimension { IfOk result (λ l. (N : ℕ) → HasDimModulo (data_of (curve_of_lifted l)) N ↔ HasDimModulo (curve_of (problem_data problem.now) l.denominator.terms) N) }
     ensures cause { IfErr result (λ stop. IsCause (problem_data problem.now) cap stop) }
+    // each cause but want of memory is answered, unless memory runs out
+    ensures exact { (stop : PickStop) → stop ≢ Memory → IsCause (problem_data problem.now) cap stop → (result ≡ Err stop) ⊎ (result ≡ Err Memory) }
+    // a proper ideal with a chosen denominator has it answered, unless memory runs out
+    ensures complete { HasProperIdeal (problem_data problem.now) cap → (d : List Term) → IsChosen (problem_data problem.now) cap d → MatchResult result (λ l. l.denominator.terms ≡ d) (λ stop. stop ≡ Memory) }
 {
     let basis = ideal_basis(alloc, problem, cap)?;
     if is_member(problem, basis.as_slice(), &one(alloc, problem.prime)?)? {

@@ -4,11 +4,13 @@
 
 mod choosing;
 mod jacobian;
+mod laws;
 mod listing;
 mod membership;
 mod sums;
 
 pub use choosing::{PickStop, pick};
+pub use laws::choices_are_unique;
 pub use listing::candidates;
 
 #[cfg(test)]
