@@ -4,3 +4,4 @@ pub mod Answers
 pub mod Shown
 pub mod Joined
 pub mod Lines
+pub mod Plain

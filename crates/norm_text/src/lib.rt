@@ -2,6 +2,7 @@
 #![tactic(auto)]
 
 mod answer;
+pub mod laws;
 mod printing;
 
 pub use answer::{Answer, PointLine};
