@@ -21,6 +21,8 @@ pub use letters::Letters;
 pub use poly_reading::{read_poly, texts_tell_polynomials};
 pub use printing::{print_bytes, print_number, print_poly};
 pub use problem::{Problem, read_problem};
+pub use values::number_up_to;
+pub use words::is_number;
 
 #[cfg(test)]
 mod reading_tests;
