@@ -228,8 +228,10 @@ pub same_dimension : {E : Type 0} (problem : Problem) (cap : ℕ) (r : Result Li
     → IfOk r (λ l. (N : ℕ) → HasDimModulo (data_of (curve_of_lifted l)) N ↔ HasDimModulo (curve_of (problem_data problem) l.denominator.terms) N)
 same_dimension problem cap (Err e) ready h = h
 same_dimension problem cap (Ok l) ready h =
-    λ N. (dimension problem prime ready l.denominator l od h.lifted.prime h.lifted.variables refl h.lifted.ideal N,
-    dimension_back problem prime ready l.denominator l od h.lifted.prime h.lifted.variables refl h.lifted.ideal N)
+    λ N. (
+      dimension problem prime ready l.denominator l od h.lifted.prime h.lifted.variables refl h.lifted.ideal N,
+      dimension_back problem prime ready l.denominator l od h.lifted.prime h.lifted.variables refl h.lifted.ideal N,
+    )
   where
     prime : IsPrime problem.prime
     prime = picked_prime problem cap l h

@@ -27,7 +27,7 @@ affine_unit n = record { seven = refl; first = only_zeros n 7; plain = refl }
 pub affine_variable : (n v : ℕ) → v < n → IsAffine n (variable v)
 affine_variable n v within = record { seven = length-set (replicate 7 0) v 1; first = only_set n (replicate 7 0) v 1 within (only_zeros n 7); plain = refl }
 
-affine_raised : (n : ℕ) (m : Monomial) (v e : ℕ) → v < n → IsAffine n m → IsAffine n (raised m v e)
+pub affine_raised : (n : ℕ) (m : Monomial) (v e : ℕ) → v < n → IsAffine n m → IsAffine n (raised m v e)
 affine_raised n m v e within h = record { seven = length-set m.exponents v _ ∙ h.seven; first = only_set n m.exponents v _ within h.first; plain = h.plain }
 
 pub affine_run : (letters : List ℕ) (m : Monomial) (word : List ℕ) → are_run_bytes letters word ≡ true → IsAffine (length letters) m → IsAffine (length letters) (run_after letters m word)

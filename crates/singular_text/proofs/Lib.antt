@@ -8,6 +8,7 @@ pub mod Numbers
 pub mod Monomials
 pub mod Powers
 pub mod Affine
+pub mod Reader
 pub mod Classes
 pub mod Fits
 pub mod Handing
@@ -22,5 +23,6 @@ pub mod ScanLists
 pub mod Rings
 pub mod Bodies
 pub mod Wholes
+pub mod ReadBack
 pub mod Statements
 pub mod Outcomes

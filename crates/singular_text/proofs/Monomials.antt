@@ -1,10 +1,10 @@
 -- Monomials raised by one variable after another.
 use Rattle.std.proofs.Common.{◌≡◌, ℕ, ◌+◌, ◌<◌, ◌≤◌, List, [], ◌∷◌, Bool, true, false, cond, length, drop, get_or, refl, sym, ap, ◌∙◌, arith, suc, zero, add-zero, add-one, drop-cons, replicate, ◌||◌, ◌&&◌, ◌==◌}
 use Rattle.std.proofs.Math.ListN.{set}
-use Rattle.std.proofs.lemmas.List.{set-get_or, get_or-set_same, length-set, drop_all}
+use Rattle.std.proofs.lemmas.List.{length-set, drop_all}
 use Rattle.std.specs.Char.{is_ascii_digit}
 use Rattle.std.specs.Prelude.{Option, None, Some, MatchOption}
-use Rattle.monomials.specs.Mono.{Monomial, IsMono, pointwise, total_degree, times, variable, unit}
+use Rattle.monomials.specs.Mono.{Monomial, IsMono, pointwise, total_degree, times, unit}
 use Rattle.singular_text.specs.Words.{is_among, are_run_bytes}
 use Rattle.singular_text.specs.Values.{raised, place, front_number, run_after, run_monomial}
 
@@ -14,50 +14,25 @@ monomial a c = record { exponents = a; component = c }
 same_monomial : (a b : List ℕ) (c d : ℕ) → a ≡ b → c ≡ d → monomial a c ≡ monomial b d
 same_monomial a b c d first second = λ i. record { exponents = first i; component = second i }
 
-pub raised_none : (m : Monomial) (v : ℕ) → raised m v 0 ≡ m
-raised_none m v = same_monomial _ m.exponents _ m.component (ap (set m.exponents v) (add-zero (get_or m.exponents v 0)) ∙ set-get_or m.exponents v 0) refl
-
 plus_zeros : (l : List ℕ) → pointwise (λ x y. x + y) l (replicate (length l) 0) ≡ l
 plus_zeros [] = refl
 plus_zeros (x ∷ l) = λ i. add-zero x i ∷ plus_zeros l i
 
-plus_one : (l : List ℕ) (v : ℕ) → v < length l → pointwise (λ x y. x + y) l (set (replicate (length l) 0) v 1) ≡ set l v (get_or l v 0 + 1)
-plus_one [] v within = absurd (omega arith)
-plus_one (x ∷ l) zero within = ap (λ (t : List ℕ). (x + 1) ∷ t) (plus_zeros l)
-plus_one (x ∷ l) (suc v) within = let h : v < length l = omega arith in λ i. add-zero x i ∷ plus_one l v h i
+plus_some : (l : List ℕ) (v e : ℕ) → v < length l
+    → pointwise (λ x y. x + y) l (set (replicate (length l) 0) v (get_or (replicate (length l) 0) v 0 + e)) ≡ set l v (get_or l v 0 + e)
+plus_some [] v e within = absurd (omega arith)
+plus_some (x ∷ l) zero e within = let h : x + (0 + e) ≡ x + e = omega arith in λ i. h i ∷ plus_zeros l i
+plus_some (x ∷ l) (suc v) e within = let h : v < length l = omega arith in λ i. add-zero x i ∷ plus_some l v e h i
 
-set_set : (l : List ℕ) (v a b : ℕ) → set (set l v a) v b ≡ set l v b
-set_set [] v a b = refl
-set_set (x ∷ l) zero a b = refl
-set_set (x ∷ l) (suc v) a b = ap (λ (t : List ℕ). x ∷ t) (set_set l v a b)
-
-pub raised_next : (m : Monomial) (v k : ℕ) → length m.exponents ≡ 7 → v < 6 → times (raised m v k) (variable v) ≡ raised m v (k + 1)
-raised_next m v k seven within = same_monomial _ (set l v (get_or l v 0 + (k + 1))) _ m.component exponents (add-zero m.component)
-  where
-    l : List ℕ
-    l = m.exponents
-
-    once : List ℕ
-    once = set m.exponents v (get_or m.exponents v 0 + k)
-
-    long : length (set m.exponents v (get_or m.exponents v 0 + k)) ≡ 7
-    long = length-set m.exponents v (get_or m.exponents v 0 + k) ∙ seven
-
-    here : v < length m.exponents
-    here = omega arith
-
-    there : v < length (set m.exponents v (get_or m.exponents v 0 + k))
-    there = omega (arith, length-set m.exponents v (get_or m.exponents v 0 + k) ∙ seven)
-
-    exponents : pointwise (λ x y. x + y) (set m.exponents v (get_or m.exponents v 0 + k)) (set (replicate 7 0) v 1) ≡ set m.exponents v (get_or m.exponents v 0 + (k + 1))
-    exponents =
-        ap (λ (n : ℕ). pointwise (λ x y. x + y) (set m.exponents v (get_or m.exponents v 0 + k)) (set (replicate n 0) v 1)) (sym (length-set m.exponents v (get_or m.exponents v 0 + k) ∙ seven))
-        ∙ plus_one (set m.exponents v (get_or m.exponents v 0 + k)) v (omega (arith, length-set m.exponents v (get_or m.exponents v 0 + k) ∙ seven))
-        ∙ set_set m.exponents v (get_or m.exponents v 0 + k) _
-        ∙ ap (set m.exponents v)
-        (
-        ap (λ (n : ℕ). n + 1) (get_or-set_same m.exponents v (get_or m.exponents v 0 + k) 0 (omega arith)) ∙ omega arith
-        )
+-- a product with a power of the variable
+pub times_raised : (m : Monomial) (v e : ℕ) → length m.exponents ≡ 7 → v < 6 → times m (raised unit v e) ≡ raised m v e
+times_raised m v e seven within =
+    same_monomial _ (set m.exponents v (get_or m.exponents v 0 + e)) _ m.component
+    (
+    ap (λ (n : ℕ). pointwise (λ x y. x + y) m.exponents (set (replicate n 0) v (get_or (replicate n 0) v 0 + e))) (sym seven)
+    ∙ plus_some m.exponents v e (omega arith)
+    )
+    (add-zero m.component)
 
 -- the degree grows by what is raised
 degree_set : (l : List ℕ) (v e : ℕ) → v < length l → total_degree (set l v (get_or l v 0 + e)) ≡ total_degree l + e
@@ -92,6 +67,14 @@ place_within (x ∷ letters) b h = by_case (x == b) refl (place_within letters b
         let rest : is_among letters b ≡ true = ap (λ (t : Bool). t || is_among letters b) (sym is) ∙ h in
         let w : place letters b < length letters = more rest in
         rw is (omega arith)
+
+pub place_most : (letters : List ℕ) (b : ℕ) → place letters b ≤ length letters
+place_most [] b = omega arith
+place_most (x ∷ letters) b = by_case (x == b) (place_most letters b)
+  where
+    by_case : (t : Bool) → place letters b ≤ length letters → cond t 0 (suc (place letters b)) ≤ suc (length letters)
+    by_case true h = omega arith
+    by_case false h = omega arith
 
 pub run_digit : (letters : List ℕ) (m : Monomial) (b : ℕ) (word : List ℕ) → is_ascii_digit b ≡ true → run_after letters m (b ∷ word) ≡ run_after letters m word
 unfolding run_after
@@ -134,15 +117,6 @@ letter_byte letters word b h no_digit = by_case (is_among letters b) refl (ap (�
     by_case : (t : Bool) → is_among letters b ≡ t → (is_among letters b && are_run_bytes letters word) ≡ true → is_among letters b ≡ true
     by_case true is both = is
     by_case false is both = absurd (let e : (false && are_run_bytes letters word) ≡ true = ap (λ (t : Bool). t && are_run_bytes letters word) (sym is) ∙ both in cc)
-
-pub variable_degree : (v : ℕ) → v < 6 → total_degree (variable v).exponents ≡ 1
-variable_degree zero within = refl
-variable_degree (suc zero) within = refl
-variable_degree (suc (suc zero)) within = refl
-variable_degree (suc (suc (suc zero))) within = refl
-variable_degree (suc (suc (suc (suc zero)))) within = refl
-variable_degree (suc (suc (suc (suc (suc zero))))) within = refl
-variable_degree (suc (suc (suc (suc (suc (suc v)))))) within = absurd (omega arith)
 
 -- ---- the steps of the code
 

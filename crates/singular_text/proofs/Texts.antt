@@ -51,14 +51,14 @@ unfolding stars
 join-stars f [] = sym (append-nil f)
 join-stars f (g ∷ fs) = ap (λ (t : List ℕ). f ++ (codes "*" ++ t)) (join-stars g fs)
 
-factors-none : (x e : ℕ) (letters es : List ℕ) → e ≡ 0 → factors (x ∷ letters) (e ∷ es) ≡ factors letters es
+pub factors-none : (x e : ℕ) (letters es : List ℕ) → e ≡ 0 → factors (x ∷ letters) (e ∷ es) ≡ factors letters es
 factors-none x e letters es none = ap (λ (b : Bool). cond b (factors letters es) (power_text x e ∷ factors letters es)) (test_yes e 0 none)
 
-factors-some : (x e : ℕ) (letters es : List ℕ) → e ≢ 0 → factors (x ∷ letters) (e ∷ es) ≡ power_text x e ∷ factors letters es
+pub factors-some : (x e : ℕ) (letters es : List ℕ) → e ≢ 0 → factors (x ∷ letters) (e ∷ es) ≡ power_text x e ∷ factors letters es
 factors-some x e letters es some = ap (λ (b : Bool). cond b (factors letters es) (power_text x e ∷ factors letters es)) (test_no e 0 some)
 
 -- a number is 0 or not
-zero_or_not : (e : ℕ) → (e ≡ 0) ⊎ (e ≢ 0)
+pub zero_or_not : (e : ℕ) → (e ≡ 0) ⊎ (e ≢ 0)
 zero_or_not zero = inl refl
 zero_or_not (suc e) = inr (λ same. omega (arith, same))
 

@@ -12,3 +12,5 @@ pub mod ProblemText
 pub mod Reading
 pub mod Evaluating
 pub mod Forms
+pub mod PolyReading
+pub mod TermReading

@@ -1,4 +1,4 @@
-// What keeps a text from being read as a problem.
+// What keeps a text from being read.
 ghost use Rattle.std.specs.Prelude.{◌≡◌};
 
 use norm_outside::NoMemory;
@@ -48,5 +48,27 @@ impl From<NoMemory> for ReadFault {
 
     fn from(_: NoMemory) -> ReadFault {
         ReadFault::Memory
+    }
+}
+
+/// Why no polynomial was read.
+#[derive(Clone, Copy, Debug, Drop, PartialEq, Eq, Error)]
+pub enum PolyFault {
+    /// The bytes are the text of no polynomial over the letters with degree at most 60,000.
+    #[error("no polynomial")]
+    NotPoly,
+    /// No memory was to be had.
+    #[error("no memory")]
+    Memory,
+}
+
+impl From<NoMemory> for PolyFault {
+    ghost use Rattle.std.specs.Prelude.{◌≡◌};
+    ghost use Rattle.singular_text.specs.declared.faults.PolyFault.TheVariants.{Memory};
+
+    ghost from_gives = { λ _ e. e ≡ Memory };
+
+    fn from(_: NoMemory) -> PolyFault {
+        PolyFault::Memory
     }
 }

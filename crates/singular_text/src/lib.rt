@@ -7,6 +7,7 @@
 mod evaluation;
 mod faults;
 mod letters;
+mod poly_reading;
 mod printing;
 mod problem;
 mod ring;
@@ -15,8 +16,9 @@ mod tokens;
 mod values;
 mod words;
 
-pub use faults::{ReadFault, Which};
+pub use faults::{PolyFault, ReadFault, Which};
 pub use letters::Letters;
+pub use poly_reading::{read_poly, texts_tell_polynomials};
 pub use printing::{print_bytes, print_number, print_poly};
 pub use problem::{Problem, read_problem};
 pub use values::number_up_to;

@@ -1,11 +1,10 @@
 // Problems, and how they are read.
-ghost use Rattle.std.specs.Prelude.{◌≡◌, ◌<◌, ◌≤◌, [], drop, length, nat_lt, if◌then◌else◌, IfOk, IfErr, IfSome, MatchOption, Some, None, Err, All, AllPairs, ◌≢◌};
+ghost use Rattle.std.specs.Prelude.{◌≡◌, ◌<◌, [], drop, length, nat_lt, if◌then◌else◌, IfOk, IfErr, IfSome, MatchOption, Some, None, Err};
 ghost use Rattle.std.specs.List.{AllByRecursion};
-ghost use Rattle.prime_field.specs.Primes.{characteristics, is_among, IsCharacteristic};
+ghost use Rattle.prime_field.specs.Primes.{IsCharacteristic};
 ghost use Rattle.singular_text.specs.declared.faults.ReadFault.TheVariants.{Syntax, Characteristic, Limit};
 ghost use Rattle.singular_text.specs.Tokens.{tokens};
 ghost use Rattle.singular_text.specs.Values.{number};
-ghost use Rattle.singular_text.specs.Letters.{IsLetter, AreLetters};
 ghost use Rattle.singular_text.specs.Reading.{Gives};
 ghost use Rattle.singular_text.specs.Evaluating.{Agrees, IsFit};
 ghost use Rattle.singular_text.specs.Problem.{IsFitProblem};

@@ -1,7 +1,7 @@
 // Texts written by hand.
 ghost use Rattle.std.specs.Prelude.{◌≡◌, IfOk};
 
-use crate::{Letters, print_poly};
+use crate::{Letters, PolyFault, print_poly, read_poly};
 use monomials::Mono;
 use norm_outside::List;
 use polys::{Poly, Term};
@@ -86,6 +86,73 @@ fn polynomials_have_one_text(rt: HostRuntime) -> Result<(), Fail> {
         print_poly(&letters, &poly, &mut out)?;
         assert_eq!(rt; out.as_slice()[0], b':');
         assert_eq!(rt; &out.as_slice()[1..], text.as_bytes());
+        let read = read_poly(rt.alloc(), prime, &letters, text.as_bytes())?;
+        assert!(rt; read.same(&poly), "at {text}");
+    }
+    Ok(())
+}
+
+#[test]
+fn only_the_one_text_is_read(rt: HostRuntime) -> Result<(), Fail> {
+    let letters = Letters::new(b"xy").ok_or("letters")?;
+    let prime = Prime::new(7).ok_or("prime")?;
+    for text in [
+        "",
+        "-",
+        "+",
+        "x^1",
+        "x^",
+        "^2",
+        "+x",
+        "1*x",
+        "x*1",
+        "2x",
+        "2*3*x",
+        "x^0",
+        "x^02",
+        "x+x",
+        "1+x",
+        "x+0",
+        "x+",
+        "00",
+        "-0",
+        "6*x",
+        "4",
+        "7",
+        "x*y^2*x",
+        "y*x",
+        "xy",
+        "x^2^2",
+        "x--1",
+        "x^-1",
+        "x^60001",
+        "x^60000*y",
+        "x^1000000000000000000000",
+        "1000000000000000000000",
+        "z",
+        "X",
+        "x ",
+        " x",
+        "x + 1",
+        "(x)",
+    ] {
+        let read = read_poly(rt.alloc(), prime, &letters, text.as_bytes());
+        assert!(rt; matches!(read, Err(PolyFault::NotPoly)), "at {text}");
+    }
+    Ok(())
+}
+
+#[test]
+fn great_degrees_are_read(rt: HostRuntime) -> Result<(), Fail> {
+    let letters = Letters::new(b"xy").ok_or("letters")?;
+    let prime = Prime::new(32003).ok_or("prime")?;
+    for text in ["x^60000", "-16001*x^59999*y+16001"] {
+        let poly = read_poly(rt.alloc(), prime, &letters, text.as_bytes())?;
+        assert_eq!(rt; poly.degree(), 60000);
+        assert_eq!(rt; poly.prime(), prime);
+        let mut out = List::new(rt.alloc());
+        print_poly(&letters, &poly, &mut out)?;
+        assert_eq!(rt; out.as_slice(), text.as_bytes());
     }
     Ok(())
 }

@@ -69,19 +69,32 @@ pub fn place(letters: &[u8], letter: u8) -> usize
     letters.len()
 }
 
-// The monomial with the exponent of the variable `v` raised by `e`.
-fn raised(mono: Mono, v: u32, e: u32) -> Mono
+// The power `e` of the variable `v`, by about log e products.
+fn variable_power(v: u32, e: u32) -> Mono
+    requires variable { v < 6 }
+    requires room { e ≤ 60000 }
+    ensures value { result ≡ raised unit v e }
+    ensures degree { total_degree result.exponents ≡ e }
+{
+    if e == 0 {
+        return Mono::one();
+    }
+    let half = variable_power(v, e / 2);
+    let square = Mono::product(&half, &half);
+    if e.is_multiple_of(2) {
+        return square;
+    }
+    Mono::product(&square, &Mono::var(v))
+}
+
+/// The monomial with the exponent of the variable `v` raised by `e`.
+pub fn raised(mono: Mono, v: u32, e: u32) -> Mono
     requires variable { v < 6 }
     requires room { total_degree mono.exponents + e ≤ 60000 }
     requires known { IsMono mono }
     ensures { result ≡ raised mono v e }
 {
-    let variable = Mono::var(v);
-    let mut power = mono;
-    for _ in 0..e {
-        power = Mono::product(&power, &variable);
-    }
-    power
+    Mono::product(&mono, &variable_power(v, e))
 }
 
 // The monomial with a letter of a run raised by the number behind it, or `None` where the degree is above 60.
