@@ -1,5 +1,5 @@
 -- What an input has, by what was read of it.
-use Rattle.std.proofs.Common.{◌≡◌, ◌≢◌, ◌<◌, ◌≤◌, ◌⊎◌, ℕ, List, ◌++◌, length, refl, sym, ap, ◌∙◌, subst, inl, inr, arith, append-nil, length-append, Some, None}
+use Rattle.std.proofs.Common.{◌≡◌, ◌<◌, ◌≤◌, ◌⊎◌, ℕ, List, ◌++◌, length, refl, sym, ap, ◌∙◌, subst, inl, inr, arith, append-nil, length-append, Some, None}
 use Rattle.std.specs.Prelude.{Option, Result, Ok, Err, IfErr}
 use native.Mathlib.Nat.{le_trans}
 use Rattle.std.specs.Io.KnownBytes.{Consumes, IsAtEnd}
@@ -9,11 +9,11 @@ use Rattle.singular_text.specs.declared.faults.ReadFault.{ReadFault}
 use Rattle.singular_text.specs.declared.faults.ReadFault.TheVariants.{Syntax, Characteristic, Limit, Memory}
 use Rattle.singular_text.specs.declared.problem.Problem.{Problem}
 use Rattle.singular_text.specs.Problem.{data_of}
-use Rattle.singular_text.specs.ProblemText.{ProblemText, IsTextOf, HasText, Answers, IsOfText, first_fault, problem_of}
+use Rattle.singular_text.specs.ProblemText.{ProblemText, IsTextOf, HasText, Answers, IsOfText, first_fault}
 use Rattle.norm_core.specs.declared.refusals.Refusal.{Refusal}
 use Rattle.norm_core.specs.declared.refusals.Refusal.TheVariants as refusal
 use Rattle.norm_core.specs.Refusals.{status_of, line_of, bytes_line}
-use Rattle.norm_core.specs.Telling.{HasDenominator, IsClosed, Solves, Tells, too_long, no_text, faulty, stated, HasAnswer, Told, HasStatus, byte_limit, outcome_status}
+use Rattle.norm_core.specs.Telling.{HasDenominator, IsClosed, Solves, Tells, too_long, no_text, faulty, stated, HasAnswer, Told, HasStatus, byte_limit}
 
 pub le_not_lt : {a b : ℕ} → a ≤ b → b < a → ⊥
 le_not_lt le lt = omega arith

@@ -1,5 +1,5 @@
 -- What a problem has, by what its denominator is.
-use Rattle.std.proofs.Common.{◌≡◌, ◌≢◌, ◌↔◌, ◌<◌, ◌≤◌, ◌⊎◌, ℕ, zero, suc, List, [], ◌∷◌, length, map, refl, sym, ap, ◌∙◌, subst, inl, inr, arith, Some, None}
+use Rattle.std.proofs.Common.{◌≡◌, ◌≢◌, ◌↔◌, ◌<◌, ◌⊎◌, ℕ, zero, suc, List, [], ◌∷◌, length, map, refl, sym, ap, ◌∙◌, subst, inl, inr, arith, Some, None}
 use Rattle.std.specs.Prelude.{Option, Result, Ok, Err, IfErr}
 use Rattle.std.specs.List.{All}
 use Rattle.std.proofs.lemmas.List.Elements.{All-nil, All-cons, All-head, All-tail}
@@ -9,18 +9,16 @@ use Rattle.polys.specs.Curve.{HasDimModulo}
 use Rattle.polys.specs.Ideal.{HasDim}
 use Rattle.polys.specs.Poly.{Polynomial}
 use Rattle.polys.specs.Terms.{IsPoly}
-use Rattle.curve_model.specs.Laws.{IsRegular}
 use Rattle.singular_text.specs.Evaluating.{IsFit}
 use Rattle.singular_text.specs.declared.problem.Problem.{Problem}
 use Rattle.singular_text.specs.Problem.{ProblemData, curve_of, data_of, IsFitProblem, terms_of}
-use Rattle.norm_text.specs.Plain.{IsPlain, PlainAnswers, plain_answer}
+use Rattle.norm_text.specs.Plain.{IsPlain, plain_answer}
 use Rattle.norm_text.specs.Answer.{answer_text}
-use Rattle.norm_text.specs.Answers.{IsAnswerText}
 use Rattle.norm_text.proofs.Plain.{plain_answers}
 use Rattle.module_basis.specs.Gens.{term_lists}
 use Rattle.lift_colon.specs.Lifted.{LiftedData, IsLifted}
 use Rattle.jacobian_pick.specs.Choice.{HasProperIdeal, IsGood, IsChosen, IsChosenBy, IsCause, IsLiftedOf}
-use Rattle.jacobian_pick.specs.Lists.{IsReady, IsUpTo}
+use Rattle.jacobian_pick.specs.Lists.{IsUpTo}
 use Rattle.jacobian_pick.specs.declared.choosing.PickStop.{PickStop}
 use Rattle.jacobian_pick.specs.declared.choosing.PickStop.TheVariants.{Memory}
 use Rattle.jacobian_pick.specs.declared.choosing.PickStop.TheVariants as stop

@@ -1,4 +1,4 @@
-use Rattle.std.proofs.Common.{◌≡◌, ◌≤◌, ℕ, ◌∷◌, refl, subst, arith}
+use Rattle.std.proofs.Common.{ℕ, ◌∷◌, refl, subst, arith}
 use Rattle.polys.specs.Ideal.{HasDim}
 use Rattle.module_basis.specs.Gens.{term_lists}
 use Rattle.norm_core.proofs.solving.is_nothing_left.Goals as goal
