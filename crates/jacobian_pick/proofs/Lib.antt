@@ -3,7 +3,6 @@ mod Lows
 mod Memberships
 mod Listings
 mod Choices
-mod Bases
 mod Tested
 mod Monics
 mod Uniqueness

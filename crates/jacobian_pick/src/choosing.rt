@@ -13,7 +13,7 @@ use crate::jacobian::one;
 use crate::listing::candidates;
 use crate::membership::{is_member, variables_of};
 use lift_colon::{Dimension, Lifted};
-use module_basis::{BasisStop, Gens, graded_basis};
+use module_basis::BasisStop;
 use norm_outside::{List, NoMemory};
 use polys::Poly;
 use singular_text::Problem;
@@ -69,16 +69,9 @@ pub fn ideal_basis(alloc: Global, problem: &Problem, cap: u32) -> Result<List<Po
     ensures not_deep { IfOk result (λ basis. HasDeepIdeal (problem_data problem.now) cap → ⊥) }
     ensures cause { IfErr result (λ stop. IsCause (problem_data problem.now) cap stop) }
 {
-    let _p = problem.prime.get();
-    let variables = variables_of(problem);
-    let gens = Gens::homogenised(
-        alloc,
-        problem.prime,
-        variables,
-        problem.generators.as_slice(),
-    )?;
-    match graded_basis(alloc, &gens, cap) {
-        Ok(graded) => Ok(graded.dehomogenised()?),
+    let generators = problem.generators.as_slice();
+    match lift_colon::ideal_basis(alloc, problem.prime, variables_of(problem), generators, cap) {
+        Ok(basis) => Ok(basis),
         Err(BasisStop::Deep) => Err(PickStop::Deep),
         Err(BasisStop::Memory) => Err(PickStop::Memory),
     }

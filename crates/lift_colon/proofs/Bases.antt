@@ -249,12 +249,6 @@ module _ (p n : ℕ) (prime : IsPrime p) (six : n ≤ 6) (ideal : List Polynomia
       (subst (λ x. IsReducedBasis p x (InIdeal p x (all_dehomogenised p (all_homogenised (term_lists ideal)))) ds) en
       (subst (λ x. IsReducedBasis x b.variables (InIdeal x b.variables (all_dehomogenised x (all_homogenised (term_lists ideal)))) ds) ep r))
 
-  pub deep_ideal : (limit : ℕ) → IsDeep gens.prime gens.variables gens.shift (term_lists gens.vectors) limit ↔ IsDeep p n 0 (all_homogenised (term_lists ideal)) limit
-  deep_ideal limit = (
-    deep_same gens.prime p gens.variables n gens.shift 0 limit (term_lists gens.vectors) (all_homogenised (term_lists ideal)) ring.0 ring.1 ring.2 lists,
-    deep_same p gens.prime n gens.variables 0 gens.shift limit (all_homogenised (term_lists ideal)) (term_lists gens.vectors) (sym ring.0) (sym ring.1) (sym ring.2) (sym lists),
-  )
-
 pub deep_pairs : (p n : ℕ) (d : Polynomial) (ideal : List Polynomial) (pairs : Gens) (limit : ℕ) → pairs.prime ≡ p → pairs.variables ≡ n → pairs.shift ≡ degree_of d.terms
     → term_lists pairs.vectors ≡ module_of d.terms (term_lists ideal) → IsDeep pairs.prime pairs.variables pairs.shift (term_lists pairs.vectors) limit ↔ IsDeepDenominator p n d.terms (term_lists ideal) limit
 deep_pairs p n d ideal pairs limit ep en es ev = (

@@ -5,6 +5,8 @@ ghost use Rattle.module_basis.specs.Gens.{term_lists};
 ghost use Rattle.module_basis.specs.declared.gens.BasisStop.TheVariants.{Deep};
 ghost use Rattle.denominator_module.specs.Module.{module_of, IsDeepDenominator};
 ghost use Rattle.graded_modules.specs.Bases.{SpanOneModule};
+ghost use Rattle.graded_modules.specs.Deep.{IsDeep};
+ghost use Rattle.homogenising.specs.Homogenised.{all_homogenised};
 ghost use Rattle.graded_modules.specs.Vector.{degree_at, lead_mono};
 ghost use Rattle.polys.specs.Curve.{IsOver};
 ghost use Rattle.polys.specs.Ideal.{HasDim, HasInfiniteDim, InIdeal, Regular};
@@ -48,6 +50,32 @@ impl Model for Lifted {
     ghost invariant = { λ l.
         IsLifted (record { prime = l.prime; variables = l.variables; denominator = l.denominator; ideal = l.ideal; sum = l.sum; colon = l.colon })
         × HasModule (record { prime = l.prime; variables = l.variables; denominator = l.denominator; ideal = l.ideal; sum = l.sum; colon = l.colon }) l.graded };
+}
+
+/// The reduced basis of the ideal of the list, in rising order of the leads.
+///
+/// # Errors
+/// `Deep` exactly where the homogenised polynomials of the list are deep under the cap; `Memory` for want of memory.
+pub fn ideal_basis(
+    alloc: Global,
+    prime: Prime,
+    variables: u32,
+    ideal: &[Poly],
+    cap: u32,
+) -> Result<List<Poly>, BasisStop>
+    requires some_variables { 1 ≤ variables }
+    requires six_variables { variables ≤ 6 }
+    requires ideal { All (IsOver prime variables) ideal.now }
+    requires some_cap { 1 ≤ cap }
+    requires cap { cap ≤ 1000 }
+    ensures over { IfOk result (λ fs. All (IsOver prime variables) fs) }
+    ensures basis { IfOk result (λ fs. IsReducedBasis prime variables (InIdeal prime variables (term_lists ideal.now)) (term_lists fs)) }
+    ensures not_deep { IfOk result (λ fs. IsDeep prime variables 0 (all_homogenised (term_lists ideal.now)) cap → ⊥) }
+    ensures deep { IfErr result (λ stop. stop ≡ Deep → IsDeep prime variables 0 (all_homogenised (term_lists ideal.now)) cap) }
+{
+    let _prime = prime.get();
+    let gens = Gens::homogenised(alloc, prime, variables, ideal)?;
+    Ok(graded_basis(alloc, &gens, cap)?.dehomogenised()?)
 }
 
 // The reduced basis of the module of a denominator.
@@ -142,8 +170,7 @@ impl Lifted {
     {
         let _prime = prime.get();
         let _terms = d.terms();
-        let gens = Gens::homogenised(alloc, prime, variables, ideal)?;
-        let basis = graded_basis(alloc, &gens, cap)?.dehomogenised()?;
+        let basis = ideal_basis(alloc, prime, variables, ideal, cap)?;
         let graded = denominator_basis(alloc, prime, variables, ideal, d, cap)?;
         Ok(of_module(alloc, prime, variables, ideal, d, basis, graded)?)
     }
