@@ -1,5 +1,5 @@
 -- What is known of a denominator that was tried, and of the one that is chosen.
-use Rattle.std.proofs.Common.{◌≡◌, ◌↔◌, inl, inr, ◌<◌, ◌≤◌, ◌+◌, ℕ, List, [], ◌∷◌, ◌++◌, length, take, drop, get_or, sym, ap, ◌∙◌, subst, arith, refl, Some, None, Bool, false, IsTrue}
+use Rattle.std.proofs.Common.{◌≡◌, ◌↔◌, ◌<◌, ◌≤◌, ◌+◌, ℕ, List, [], ◌∷◌, ◌++◌, length, take, drop, get_or, sym, ap, ◌∙◌, subst, arith, refl, Some, None, Bool, false, IsTrue}
 use Rattle.std.specs.Prelude.{Result, Ok, Err, IfOk, IfErr, IfSome, option_map}
 use Rattle.std.specs.List.{All}
 use Rattle.std.proofs.lemmas.List.{take-append-drop, drop_more, map-append}
@@ -15,12 +15,13 @@ use Rattle.polys.proofs.Affine.{affine_unit}
 use Rattle.polys.proofs.Ideals.{in_head, in_more, in_generator, in_larger, in_poly}
 use Rattle.denominator_module.proofs.Firsts.{all_from}
 use Rattle.module_basis.specs.Gens.{term_lists}
-use Rattle.lift_colon.specs.Lifted.{LiftedData, IsDeepWith, IsLifted}
+use Rattle.denominator_module.specs.Module.{IsDeepDenominator}
+use Rattle.lift_colon.specs.Lifted.{LiftedData, IsLifted}
 use Rattle.singular_text.specs.declared.problem.Problem.{Problem}
 use Rattle.singular_text.specs.Problem.{ProblemData, curve_of}
 use Rattle.jacobian_pick.specs.Candidates.{AreCandidates}
 use Rattle.jacobian_pick.specs.Choice.{HasDeepIdeal, HasProperIdeal, HasDeepModule, IsInfinite, IsGood, IsFirstGood, IsChosen, IsChosenBy, HasNoDenominator, IsReason, IsCause, IsLiftedOf, IsFound, IsPicked, curve_of_lifted}
-use Rattle.jacobian_pick.specs.Lists.{IsReady, IsUpTo, problem_data}
+use Rattle.jacobian_pick.specs.Lists.{IsBasisOf, IsReady, IsUpTo, problem_data}
 use Rattle.jacobian_pick.specs.declared.choosing.PickStop.{PickStop}
 use Rattle.jacobian_pick.specs.declared.choosing.PickStop.TheVariants.{Deep, Unit, DenominatorDeep, ZeroDivisor, Infinite, Wide, NoDenominator, Memory}
 use Rattle.jacobian_pick.proofs.Memberships.{monic_low, next}
@@ -54,23 +55,19 @@ polys_of p n D (f ∷ fs) a = All-cons (IsPoly p n) f.terms (term_lists fs) (All
 -- ---- a denominator that was tried
 
 module _ (problem : Problem) (cap : ℕ) (d : Polynomial) (v : ℕ) (gens : List Polynomial) (ev : v ≡ length problem.letters) (eg : gens ≡ problem.generators) where
-  pub deep_module : (HasDeepIdeal (problem_data problem) cap → ⊥) → IsDeepWith problem.prime v gens d cap → HasDeepModule (problem_data problem) cap d.terms
-  deep_module h x =
-      go (subst (λ (m : ℕ). IsDeepWith problem.prime m problem.generators d cap) ev (subst (λ w. IsDeepWith problem.prime v w d cap) eg x))
-    where
-      go : IsDeepWith problem.prime (length problem.letters) problem.generators d cap → HasDeepModule (problem_data problem) cap d.terms
-      go (inl a) = absurd (h a)
-      go (inr b) = b
+  pub deep_module : IsDeepDenominator problem.prime v d.terms (term_lists gens) cap → HasDeepModule (problem_data problem) cap d.terms
+  deep_module x =
+      subst (λ (m : ℕ). IsDeepDenominator problem.prime m d.terms (term_lists problem.generators) cap) ev (subst (λ w. IsDeepDenominator problem.prime v d.terms (term_lists w) cap) eg x)
 
-  pub no_deep_module : (IsDeepWith problem.prime v gens d cap → ⊥) → HasDeepModule (problem_data problem) cap d.terms → ⊥
+  pub no_deep_module : (IsDeepDenominator problem.prime v d.terms (term_lists gens) cap → ⊥) → HasDeepModule (problem_data problem) cap d.terms → ⊥
   no_deep_module h x =
-      h (subst (λ w. IsDeepWith problem.prime v w d cap) (sym eg) (subst (λ (m : ℕ). IsDeepWith problem.prime m problem.generators d cap) (sym ev) (inr x)))
+      h (subst (λ w. IsDeepDenominator problem.prime v d.terms (term_lists w) cap) (sym eg) (subst (λ (m : ℕ). IsDeepDenominator problem.prime m d.terms (term_lists problem.generators) cap) (sym ev) x))
 
-  pub basis_at : (qs : List Polynomial) → IsReducedBasis problem.prime v (InIdeal problem.prime v (term_lists gens)) (term_lists qs)
-      → IsReducedBasis problem.prime (length problem.letters) (InIdeal problem.prime (length problem.letters) (term_lists problem.generators)) (term_lists qs)
-  basis_at qs h =
-      subst (λ (m : ℕ). IsReducedBasis problem.prime m (InIdeal problem.prime m (term_lists problem.generators)) (term_lists qs)) ev
-      (subst (λ w. IsReducedBasis problem.prime v (InIdeal problem.prime v (term_lists w)) (term_lists qs)) eg h)
+-- a copy of the basis is the basis
+pub basis_as : (problem : Problem) (basis ideal : List Polynomial) → IsBasisOf problem basis → ideal ≡ basis
+    → IsReducedBasis problem.prime (length problem.letters) (InIdeal problem.prime (length problem.letters) (term_lists problem.generators)) (term_lists ideal)
+basis_as problem basis ideal known e =
+    subst (λ w. IsReducedBasis problem.prime (length problem.letters) (InIdeal problem.prime (length problem.letters) (term_lists problem.generators)) (term_lists w)) (sym e) known.reduced
 
 module _ (problem : Problem) (prime : IsPrime problem.prime) (ready : IsReady problem) (d : Polynomial) (l : LiftedData) (od : IsOver problem.prime (length problem.letters) d)
     (ep : l.prime ≡ problem.prime) (en : l.variables ≡ length problem.letters) (ed : l.denominator ≡ d)

@@ -77,9 +77,27 @@ pub fn ideal_basis(alloc: Global, problem: &Problem, cap: u32) -> Result<List<Po
     }
 }
 
+// Copies of the polynomials.
+fn copied(alloc: Global, list: &[Poly]) -> Result<List<Poly>, NoMemory>
+    ensures { IfOk result (λ copies. copies ≡ list.now) }
+{
+    let mut copies = List::new(alloc);
+    for f in list {
+        copies.push(f.clone_poly()?)?;
+    }
+    Ok(copies)
+}
+
 // The bases for the denominator `d`, or why it is not good.
-fn tried(alloc: Global, problem: &Problem, d: &Poly, cap: u32) -> Result<Lifted, PickStop>
+fn tried(
+    alloc: Global,
+    problem: &Problem,
+    basis: &[Poly],
+    d: &Poly,
+    cap: u32,
+) -> Result<Lifted, PickStop>
     requires ready { IsReady problem.now }
+    requires basis { IsBasisOf problem.now basis.now }
     requires denominator { IsOver problem.now.prime (length problem.now.letters) d.now }
     requires not_deep { HasDeepIdeal (problem_data problem.now) cap → ⊥ }
     requires some_cap { 1 ≤ cap }
@@ -92,11 +110,12 @@ fn tried(alloc: Global, problem: &Problem, d: &Poly, cap: u32) -> Result<Lifted,
 {
     let _p = problem.prime.get();
     let generators = problem.generators.as_slice();
-    let lifted = match Lifted::make(
+    let lifted = match Lifted::over_basis(
         alloc,
         problem.prime,
         variables_of(problem),
         generators,
+        copied(alloc, basis)?,
         d,
         cap,
     ) {
@@ -119,10 +138,12 @@ fn tried(alloc: Global, problem: &Problem, d: &Poly, cap: u32) -> Result<Lifted,
 fn first_good(
     alloc: Global,
     problem: &Problem,
+    basis: &[Poly],
     list: &[Poly],
     cap: u32,
 ) -> Result<Option<Lifted>, NoMemory>
     requires ready { IsReady problem.now }
+    requires basis { IsBasisOf problem.now basis.now }
     requires list { All (IsUpTo problem.now.prime (length problem.now.letters) 119) list.now }
     requires not_deep { HasDeepIdeal (problem_data problem.now) cap → ⊥ }
     requires some_cap { 1 ≤ cap }
@@ -131,7 +152,7 @@ fn first_good(
     ensures none { IfOk result (λ found. IsNone found → All (λ d. IsGood (problem_data problem.now) cap d → ⊥) (term_lists list.now)) }
 {
     for d in list {
-        match tried(alloc, problem, d, cap) {
+        match tried(alloc, problem, basis, d, cap) {
             Ok(lifted) => return Ok(Some(lifted)),
             Err(stop) => {
                 if stop == PickStop::Memory {
@@ -160,15 +181,22 @@ fn by_candidates(
     ensures cause { IfErr result (λ stop. IsCause (problem_data problem.now) cap stop) }
 {
     let list = candidates(alloc, problem, basis)?;
-    match first_good(alloc, problem, list.as_slice(), cap)? {
+    match first_good(alloc, problem, basis, list.as_slice(), cap)? {
         Some(lifted) => Ok(lifted),
         None => Err(PickStop::NoDenominator),
     }
 }
 
 // The bases for the denominator that is handed in.
-fn by_hand(alloc: Global, problem: &Problem, d: &Poly, cap: u32) -> Result<Lifted, PickStop>
+fn by_hand(
+    alloc: Global,
+    problem: &Problem,
+    basis: &[Poly],
+    d: &Poly,
+    cap: u32,
+) -> Result<Lifted, PickStop>
     requires ready { IsReady problem.now }
+    requires basis { IsBasisOf problem.now basis.now }
     requires given { problem.now.denominator ≡ Some d.now }
     requires proper { HasProperIdeal (problem_data problem.now) cap }
     requires some_cap { 1 ≤ cap }
@@ -178,7 +206,7 @@ fn by_hand(alloc: Global, problem: &Problem, d: &Poly, cap: u32) -> Result<Lifte
 {
     let _p = problem.prime.get();
     let monic = d.monic()?;
-    tried(alloc, problem, &monic, cap)
+    tried(alloc, problem, basis, &monic, cap)
 }
 
 /// The bases of the ideal of the problem and of its denominator: of the monic multiple of the one that is handed in, or
@@ -210,7 +238,7 @@ pub fn pick(alloc: Global, problem: &Problem, cap: u32) -> Result<Lifted, PickSt
         return Err(PickStop::Unit);
     }
     match &problem.denominator {
-        Some(d) => by_hand(alloc, problem, d, cap),
+        Some(d) => by_hand(alloc, problem, basis.as_slice(), d, cap),
         None => by_candidates(alloc, problem, basis.as_slice(), cap),
     }
 }

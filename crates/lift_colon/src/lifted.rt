@@ -168,11 +168,40 @@ impl Lifted {
         ensures not_deep { IfOk result (λ l. IsDeepWith prime variables ideal.now d.now cap → ⊥) }
         ensures deep { IfErr result (λ stop. stop ≡ Deep → IsDeepWith prime variables ideal.now d.now cap) }
     {
+        let basis = ideal_basis(alloc, prime, variables, ideal, cap)?;
+        Lifted::over_basis(alloc, prime, variables, ideal, basis, d, cap)
+    }
+
+    /// The bases of an ideal and of the denominator d, where the reduced basis of the generators' ideal is at hand, or
+    /// `Deep`.
+    ///
+    /// # Errors
+    /// `Deep` exactly where the module of d over the generators is deep under the cap; `Memory` for want of memory.
+    pub fn over_basis(
+        alloc: Global,
+        prime: Prime,
+        variables: u32,
+        generators: &[Poly],
+        basis: List<Poly>,
+        d: &Poly,
+        cap: u32,
+    ) -> Result<Lifted, BasisStop>
+        requires some_variables { 1 ≤ variables }
+        requires six_variables { variables ≤ 6 }
+        requires generators { All (IsOver prime variables) generators.now }
+        requires over { All (IsOver prime variables) basis }
+        requires basis { IsReducedBasis prime variables (InIdeal prime variables (term_lists generators.now)) (term_lists basis) }
+        requires denominator { IsOver prime variables d.now }
+        requires some_cap { 1 ≤ cap }
+        requires cap { cap ≤ 1000 }
+        ensures data { IfOk result (λ l. (l.prime ≡ prime) × (l.variables ≡ variables) × (l.denominator ≡ d.now) × (l.ideal ≡ basis)) }
+        ensures not_deep { IfOk result (λ l. IsDeepDenominator prime variables d.now.terms (term_lists generators.now) cap → ⊥) }
+        ensures deep { IfErr result (λ stop. stop ≡ Deep → IsDeepDenominator prime variables d.now.terms (term_lists generators.now) cap) }
+    {
         let _prime = prime.get();
         let _terms = d.terms();
-        let basis = ideal_basis(alloc, prime, variables, ideal, cap)?;
-        let graded = denominator_basis(alloc, prime, variables, ideal, d, cap)?;
-        Ok(of_module(alloc, prime, variables, ideal, d, basis, graded)?)
+        let graded = denominator_basis(alloc, prime, variables, generators, d, cap)?;
+        Ok(of_module(alloc, prime, variables, generators, d, basis, graded)?)
     }
 
     /// The prime.

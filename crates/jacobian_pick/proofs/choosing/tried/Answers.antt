@@ -1,19 +1,19 @@
 use Rattle.std.proofs.Common.{◌∙◌, subst}
 use Rattle.std.specs.Bool.{IsTrue}
 use Rattle.prime_field.specs.Primes.{IsPrime}
-use Rattle.jacobian_pick.proofs.Choices.{deep_module, no_deep_module, basis_at, regular, dimension, infinite}
+use Rattle.jacobian_pick.proofs.Choices.{deep_module, no_deep_module, basis_as, regular, dimension, infinite}
 use Rattle.jacobian_pick.proofs.choosing.tried.Goals as goal
 
 pub returns-in-Err-Deep-clause-reason : goal.returns-in-Err-Deep-clause-reason
 returns-in-Err-Deep-clause-reason c =
-    deep_module c.args.problem.now c.args.cap c.args.d.now c.variables_of.result c.as_slice-generators.result.now c.variables_of.ensures.value c.as_slice-generators.ensures c.requires.not_deep
+    deep_module c.args.problem.now c.args.cap c.args.d.now c.variables_of.result c.as_slice-generators.result.now c.variables_of.ensures.value c.as_slice-generators.ensures
     (c.in-Err-Deep.ensures.deep c.in-Err-Deep.field-0-is)
 
 pub returns-then-not-branch-clause-reason : goal.returns-then-not-branch-clause-reason
 returns-then-not-branch-clause-reason c =
     let known = c.in-Ok.ensures.«data» in
     let r = regular c.args.problem.now (subst IsPrime c.get-p.ensures.value c.get-p.ensures.prime) c.requires.ready c.args.d.now c.in-Ok.lifted c.requires.denominator known.0 (known.1 ∙ c.variables_of.ensures.value) known.2
-    (basis_at c.args.problem.now c.args.cap c.args.d.now c.variables_of.result c.as_slice-generators.result.now c.variables_of.ensures.value c.as_slice-generators.ensures c.in-Ok.lifted.ideal c.in-Ok.ensures.ideal)
+    (basis_as c.args.problem.now c.args.basis.now c.in-Ok.lifted.ideal c.requires.basis (known.3 ∙ c.in_ok-copied.ensures))
     in
     record {
       not_deep = no_deep_module c.args.problem.now c.args.cap c.args.d.now c.variables_of.result c.as_slice-generators.result.now c.variables_of.ensures.value c.as_slice-generators.ensures c.in-Ok.ensures.not_deep;
@@ -24,7 +24,7 @@ pub returns-in-Finite-clause-good : goal.returns-in-Finite-clause-good
 returns-in-Finite-clause-good c =
     let known = c.in-Ok.ensures.«data» in
     let prime = subst IsPrime c.get-p.ensures.value c.get-p.ensures.prime in
-    let basis = basis_at c.args.problem.now c.args.cap c.args.d.now c.variables_of.result c.as_slice-generators.result.now c.variables_of.ensures.value c.as_slice-generators.ensures c.in-Ok.lifted.ideal c.in-Ok.ensures.ideal in
+    let basis = basis_as c.args.problem.now c.args.basis.now c.in-Ok.lifted.ideal c.requires.basis (known.3 ∙ c.in_ok-copied.ensures) in
     let r = regular c.args.problem.now prime c.requires.ready c.args.d.now c.in-Ok.lifted c.requires.denominator known.0 (known.1 ∙ c.variables_of.ensures.value) known.2 basis in
     let yes : IsTrue c.in_ok-is_regular.field-0 = cc in
     let f = (c.in_ok-dimension.ensures.finite c.in-Finite.field-0).0 c.in-Finite.is in
@@ -44,7 +44,7 @@ pub returns-in-Wide-clause-reason : goal.returns-in-Wide-clause-reason
 returns-in-Wide-clause-reason c =
     let known = c.in-Ok.ensures.«data» in
     let prime = subst IsPrime c.get-p.ensures.value c.get-p.ensures.prime in
-    let basis = basis_at c.args.problem.now c.args.cap c.args.d.now c.variables_of.result c.as_slice-generators.result.now c.variables_of.ensures.value c.as_slice-generators.ensures c.in-Ok.lifted.ideal c.in-Ok.ensures.ideal in
+    let basis = basis_as c.args.problem.now c.args.basis.now c.in-Ok.lifted.ideal c.requires.basis (known.3 ∙ c.in_ok-copied.ensures) in
     let r = regular c.args.problem.now prime c.requires.ready c.args.d.now c.in-Ok.lifted c.requires.denominator known.0 (known.1 ∙ c.variables_of.ensures.value) known.2 basis in
     let yes : IsTrue c.in_ok-is_regular.field-0 = cc in
     let w = c.in_ok-dimension.ensures.wide.0 c.in-Wide.is in (
@@ -59,7 +59,7 @@ pub returns-in-Infinite-clause-reason : goal.returns-in-Infinite-clause-reason
 returns-in-Infinite-clause-reason c =
     let known = c.in-Ok.ensures.«data» in
     let prime = subst IsPrime c.get-p.ensures.value c.get-p.ensures.prime in
-    let basis = basis_at c.args.problem.now c.args.cap c.args.d.now c.variables_of.result c.as_slice-generators.result.now c.variables_of.ensures.value c.as_slice-generators.ensures c.in-Ok.lifted.ideal c.in-Ok.ensures.ideal in
+    let basis = basis_as c.args.problem.now c.args.basis.now c.in-Ok.lifted.ideal c.requires.basis (known.3 ∙ c.in_ok-copied.ensures) in
     let r = regular c.args.problem.now prime c.requires.ready c.args.d.now c.in-Ok.lifted c.requires.denominator known.0 (known.1 ∙ c.variables_of.ensures.value) known.2 basis in
     let yes : IsTrue c.in_ok-is_regular.field-0 = cc in (
       record {
