@@ -61,144 +61,115 @@ fn run_sound(alloc: Global, words: &[String], source: &mut SoundSource, sink: &m
     run_alone(alloc, words, source, sink)
 }
 
+// Whether a run without faults gives the status and the text.
+fn gives(alloc: Global, words: &[&str], input: &str, status: u8, text: &str) -> Result<bool, Fail> {
+    let (found, written) = run(alloc, words, input, &[], &[])?;
+    Ok(found == status && written.as_slice() == text.as_bytes())
+}
+
 #[test]
-fn problems_are_answered_or_refused(rt: HostRuntime) -> Result<(), Fail> {
-    for (input, status, text) in [
-        (TRIVIAL, 0, TRIVIAL_ANSWER),
-        (POINT, 0, POINT_ANSWER),
-        (LINE, 0, LINE_ANSWER),
-        (CUSP, 40, "refused: not yet\n"),
-        (
-            "ring r = 7,(x),dp; ideal I = x-1; poly d = x; at x-1;",
-            40,
-            "refused: not yet\n",
-        ),
-        (
-            "ring r = 5,(x,y),dp; ideal I = x*y; poly d = x;",
-            8,
-            "refused: zero divisor\n",
-        ),
-        (
-            "ring r = 5,(x,y),dp; ideal I = 0; poly d = x;",
-            9,
-            "refused: infinite\n",
-        ),
-        (
-            "ring r = 5,(x,y),dp; ideal I = 0;",
-            7,
-            "refused: no denominator\n",
-        ),
-        (
-            "ring r = 7,(w,x,y,z),dp; ideal I = w-x,x-y;",
-            7,
-            "refused: no denominator\n",
-        ),
-        (
-            "ring r = 7,(x,y),dp; ideal I = 1;",
-            5,
-            "refused: unit ideal\n",
-        ),
-        (
-            "ring r = 7,(x,y),dp; ideal I = y5-x6; poly d = x60;",
-            9,
-            "refused: wide\n",
-        ),
+fn problems_are_answered(rt: HostRuntime) -> Result<(), Fail> {
+    for (input, text) in [
+        (TRIVIAL, TRIVIAL_ANSWER),
+        (POINT, POINT_ANSWER),
+        (LINE, LINE_ANSWER),
     ] {
-        let (found, written) = run(rt.alloc(), &["alone"], input, &[], &[])?;
-        assert_eq!(rt; found, status, "at {input}");
-        assert_eq!(rt; written.as_slice(), text.as_bytes(), "at {input}");
+        assert!(rt;
+            gives(rt.alloc(), &["alone"], input, 0, text)?,
+            "at {input}"
+        );
+    }
+    let named = "ring r = 7,(x),dp; ideal I = x-1; poly d = x; at x-1;";
+    for input in [CUSP, named] {
+        let line = "refused: not yet\n";
+        assert!(rt;
+            gives(rt.alloc(), &["alone"], input, 40, line)?,
+            "at {input}"
+        );
+    }
+    Ok(())
+}
+
+#[test]
+fn denominators_are_refused(rt: HostRuntime) -> Result<(), Fail> {
+    let crossed = "ring r = 5,(x,y),dp; ideal I = x*y; poly d = x;";
+    let plane = "ring r = 5,(x,y),dp; ideal I = 0; poly d = x;";
+    let none = "ring r = 5,(x,y),dp; ideal I = 0;";
+    let four = "ring r = 7,(w,x,y,z),dp; ideal I = w-x,x-y;";
+    let unit = "ring r = 7,(x,y),dp; ideal I = 1;";
+    let wide = "ring r = 7,(x,y),dp; ideal I = y5-x6; poly d = x60;";
+    for (input, status, line) in [
+        (crossed, 8, "refused: zero divisor\n"),
+        (plane, 9, "refused: infinite\n"),
+        (none, 7, "refused: no denominator\n"),
+        (four, 7, "refused: no denominator\n"),
+        (unit, 5, "refused: unit ideal\n"),
+        (wide, 9, "refused: wide\n"),
+    ] {
+        assert!(rt;
+            gives(rt.alloc(), &["alone"], input, status, line)?,
+            "at {input}"
+        );
     }
     Ok(())
 }
 
 #[test]
 fn texts_are_refused(rt: HostRuntime) -> Result<(), Fail> {
-    for (input, status, text) in [
-        (
-            "ring r = 7,(x,y),dp; ideal I = y2-x3",
-            3,
-            "refused: syntax\n",
-        ),
-        (
-            "ring r = 9,(x,y),dp; ideal I = y2-x3;",
-            4,
-            "refused: characteristic\n",
-        ),
-        (
-            "ring r = 7,(a,b,c,d,e,f,g),dp; ideal I = a;",
-            4,
-            "refused: limit variables\n",
-        ),
-        (
-            "ring r = 7,(x),dp; ideal I = x,x,x,x,x,x,x,x,x,x,x,x,x;",
-            4,
-            "refused: limit generators\n",
-        ),
-        (
-            "ring r = 7,(x),dp; ideal I = x; at x,x,x,x,x,x,x,x,x,x,x,x,x;",
-            4,
-            "refused: limit points\n",
-        ),
-        (
-            "ring r = 7,(x),dp; ideal I = 1234567890123456789;",
-            4,
-            "refused: limit digits\n",
-        ),
-        (
-            "ring r = 7,(x,y),dp; ideal I = y2-x61;",
-            4,
-            "refused: limit size\n",
-        ),
+    let syntax = "ring r = 7,(x,y),dp; ideal I = y2-x3";
+    let nine = "ring r = 9,(x,y),dp; ideal I = y2-x3;";
+    let seven_letters = "ring r = 7,(a,b,c,d,e,f,g),dp; ideal I = a;";
+    let generators = "ring r = 7,(x),dp; ideal I = x,x,x,x,x,x,x,x,x,x,x,x,x;";
+    let points = "ring r = 7,(x),dp; ideal I = x; at x,x,x,x,x,x,x,x,x,x,x,x,x;";
+    let digits = "ring r = 7,(x),dp; ideal I = 1234567890123456789;";
+    let size = "ring r = 7,(x,y),dp; ideal I = y2-x61;";
+    for (input, status, line) in [
+        (syntax, 3, "refused: syntax\n"),
+        (nine, 4, "refused: characteristic\n"),
+        (seven_letters, 4, "refused: limit variables\n"),
+        (generators, 4, "refused: limit generators\n"),
+        (points, 4, "refused: limit points\n"),
+        (digits, 4, "refused: limit digits\n"),
+        (size, 4, "refused: limit size\n"),
     ] {
-        let (found, written) = run(rt.alloc(), &["alone"], input, &[], &[])?;
-        assert_eq!(rt; found, status, "at {input}");
-        assert_eq!(rt; written.as_slice(), text.as_bytes(), "at {input}");
+        assert!(rt;
+            gives(rt.alloc(), &["alone"], input, status, line)?,
+            "at {input}"
+        );
     }
     Ok(())
 }
 
 #[test]
 fn words_ask_for_a_cap(rt: HostRuntime) -> Result<(), Fail> {
+    let deep = "refused: deep ideal\n";
     for (words, status, text) in [
-        (
-            ["alone", "--degree", "4"].as_slice(),
-            6,
-            "refused: deep ideal\n",
-        ),
-        (
-            ["alone", "--degree=0004"].as_slice(),
-            6,
-            "refused: deep ideal\n",
-        ),
+        (["alone", "--degree", "4"].as_slice(), 6, deep),
+        (["alone", "--degree=0004"].as_slice(), 6, deep),
         (["alone", "--degree", "1000"].as_slice(), 0, TRIVIAL_ANSWER),
         (["alone"].as_slice(), 0, TRIVIAL_ANSWER),
-        ([].as_slice(), 2, "refused: usage\n"),
-        (["normal"].as_slice(), 2, "refused: usage\n"),
-        (["Alone"].as_slice(), 2, "refused: usage\n"),
-        (["alone", "alone"].as_slice(), 2, "refused: usage\n"),
-        (["alone", "--degree"].as_slice(), 2, "refused: usage\n"),
-        (["alone", "--degree="].as_slice(), 2, "refused: usage\n"),
-        (["alone", "--degree", "0"].as_slice(), 2, "refused: usage\n"),
-        (
-            ["alone", "--degree", "1001"].as_slice(),
-            2,
-            "refused: usage\n",
-        ),
-        (
-            ["alone", "--degree=00200"].as_slice(),
-            2,
-            "refused: usage\n",
-        ),
-        (["alone", "--degree=+200"].as_slice(), 2, "refused: usage\n"),
-        (
-            ["alone", "--degree", "4", "--degree", "4"].as_slice(),
-            2,
-            "refused: usage\n",
-        ),
     ] {
-        let (found, written) = run(rt.alloc(), words, CUBES, &[], &[])?;
-        assert_eq!(rt; found, status);
-        assert_eq!(rt; written.as_slice(), text.as_bytes());
+        assert!(rt; gives(rt.alloc(), words, CUBES, status, text)?);
+    }
+    Ok(())
+}
+
+#[test]
+fn other_words_are_refused(rt: HostRuntime) -> Result<(), Fail> {
+    for (words, status) in [
+        ([].as_slice(), 2),
+        (["normal"].as_slice(), 2),
+        (["Alone"].as_slice(), 2),
+        (["alone", "alone"].as_slice(), 2),
+        (["alone", "--degree"].as_slice(), 2),
+        (["alone", "--degree="].as_slice(), 2),
+        (["alone", "--degree", "0"].as_slice(), 2),
+        (["alone", "--degree", "1001"].as_slice(), 2),
+        (["alone", "--degree=00200"].as_slice(), 2),
+        (["alone", "--degree=+200"].as_slice(), 2),
+        (["alone", "--degree", "4", "--degree", "4"].as_slice(), 2),
+    ] {
+        assert!(rt; gives(rt.alloc(), words, CUBES, status, "refused: usage\n")?);
     }
     Ok(())
 }
