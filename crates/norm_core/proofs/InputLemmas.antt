@@ -13,7 +13,7 @@ use Rattle.singular_text.specs.ProblemText.{ProblemText, IsTextOf, HasText, Answ
 use Rattle.norm_core.specs.declared.refusals.Refusal.{Refusal}
 use Rattle.norm_core.specs.declared.refusals.Refusal.TheVariants as refusal
 use Rattle.norm_core.specs.Refusals.{status_of, line_of, bytes_line}
-use Rattle.norm_core.specs.Telling.{HasDenominator, IsClosed, Solves, Tells, too_long, no_text, faulty, stated, HasAnswer, Told, HasStatus, byte_limit}
+use Rattle.norm_core.specs.Telling.{HasDenominator, IsServed, Solves, Tells, too_long, no_text, faulty, stated, HasAnswer, Told, HasStatus, byte_limit}
 
 pub le_not_lt : {a b : ℕ} → a ≤ b → b < a → ⊥
 le_not_lt le lt = omega arith
@@ -124,11 +124,11 @@ problem-has_status cap input problem result short has exact solved status text (
 
 pub problem-of_answer : (cap : ℕ) (input : List ℕ) (problem : Problem) (result : Result (List ℕ) Refusal)
     → ((t : ProblemText) → IsTextOf input t → Answers (Ok problem) t)
-    → ((d : List Term) → HasDenominator (data_of problem) cap d → IsClosed (data_of problem) d → HasStatus result 0)
+    → ((d : List Term) → HasDenominator (data_of problem) cap d → IsServed (data_of problem) d → HasStatus result 0)
     → HasAnswer cap input → HasStatus result 0
 problem-of_answer cap input problem result exact solved h =
     let same = (exact h.parts h.text).1 in
-    solved h.denominator (subst (λ P. HasDenominator P cap h.denominator) (sym same) h.chosen) (subst (λ P. IsClosed P h.denominator) (sym same) h.closed)
+    solved h.denominator (subst (λ P. HasDenominator P cap h.denominator) (sym same) h.chosen) (subst (λ P. IsServed P h.denominator) (sym same) h.served)
 
 -- ---- from a source
 

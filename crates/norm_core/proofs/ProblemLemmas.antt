@@ -25,7 +25,7 @@ use Rattle.jacobian_pick.specs.declared.choosing.PickStop.TheVariants as stop
 use Rattle.norm_core.specs.declared.refusals.Refusal.{Refusal}
 use Rattle.norm_core.specs.declared.refusals.Refusal.TheVariants.{Denominator}
 use Rattle.norm_core.specs.Refusals.{status_of, line_of}
-use Rattle.norm_core.specs.Telling.{HasDenominator, IsOpen, IsClosed, Solves, stopped, not_yet, answered}
+use Rattle.norm_core.specs.Telling.{HasDenominator, IsUnserved, IsServed, Solves, stopped, not_yet, answered}
 
 -- ---- what is read is ready
 
@@ -61,31 +61,31 @@ something-left problem cap d chosen not = by_number good.narrow.0 good.narrow.2
     by_number zero h = absurd (not h)
     by_number (suc N) h = (suc N, omega arith, h)
 
--- what is open is not closed
-open-not_closed : (problem : ProblemData) (d : List Term) → IsOpen problem d → IsClosed problem d → ⊥
-open-not_closed problem d (inl named) closed = named closed.unnamed
-open-not_closed problem d (inr left) closed =
-    no_two_dimensions problem.prime (length problem.letters) left.0 (d ∷ problem.generators) closed.nothing_left left.2 left.1
+-- what is served is not unserved
+unserved-not_served : (problem : ProblemData) (d : List Term) → IsUnserved problem d → IsServed problem d → ⊥
+unserved-not_served problem d (inl named) served = named served.unnamed
+unserved-not_served problem d (inr left) served =
+    no_two_dimensions problem.prime (length problem.letters) left.0 (d ∷ problem.generators) served.nothing_left left.2 left.1
 
 -- ---- a problem that has a denominator
 
 module _ (problem : ProblemData) (cap : ℕ) (d : List Term) (has : HasDenominator problem cap d)
     (no_cause : (stop : PickStop) → stop ≢ Memory → IsCause problem cap stop → ⊥) (one : HasProperIdeal problem cap → (e : List Term) → IsChosen problem cap e → d ≡ e) where
-  pub open-not_answered : IsOpen problem d → (e : List Term) → HasDenominator problem cap e → IsClosed problem e → ⊥
-  open-not_answered is_open e other closed = open-not_closed problem d is_open (subst (IsClosed problem) (sym (one other.proper e other.chosen)) closed)
+  pub unserved-not_answered : IsUnserved problem d → (e : List Term) → HasDenominator problem cap e → IsServed problem e → ⊥
+  unserved-not_answered unserved e other served = unserved-not_served problem d unserved (subst (IsServed problem) (sym (one other.proper e other.chosen)) served)
 
-  -- one that is open is not served yet
-  pub open-status : IsOpen problem d → (status : ℕ) (text : List ℕ) → Solves problem cap status text → 40 ≡ status
-  open-status is_open status text (stopped stop not cause e _) = absurd (no_cause stop not cause)
-  open-status is_open status text (not_yet other h o e _) = sym e
-  open-status is_open status text (answered other h closed e _) = absurd (open-not_answered is_open other h closed)
+  -- one that is not served
+  pub unserved-status : IsUnserved problem d → (status : ℕ) (text : List ℕ) → Solves problem cap status text → 40 ≡ status
+  unserved-status unserved status text (stopped stop not cause e _) = absurd (no_cause stop not cause)
+  unserved-status unserved status text (not_yet other h o e _) = sym e
+  unserved-status unserved status text (answered other h served e _) = absurd (unserved-not_answered unserved other h served)
 
-  -- one that is closed has an answer
-  pub closed-status : IsClosed problem d → (status : ℕ) (text : List ℕ) → Solves problem cap status text → 0 ≡ status
-  closed-status closed status text (stopped stop not cause e _) = absurd (no_cause stop not cause)
-  closed-status closed status text (not_yet other h is_open e _) =
-      absurd (open-not_closed problem d (subst (IsOpen problem) (sym (one h.proper other h.chosen)) is_open) closed)
-  closed-status closed status text (answered other h c e _) = sym e
+  -- one that is served has an answer
+  pub served-status : IsServed problem d → (status : ℕ) (text : List ℕ) → Solves problem cap status text → 0 ≡ status
+  served-status served status text (stopped stop not cause e _) = absurd (no_cause stop not cause)
+  served-status served status text (not_yet other h unserved e _) =
+      absurd (unserved-not_served problem d (subst (IsUnserved problem) (sym (one h.proper other h.chosen)) unserved) served)
+  served-status served status text (answered other h c e _) = sym e
 
 -- ---- a problem that has none
 
@@ -125,15 +125,15 @@ no_lists : (at : List (List Polynomial)) → map terms_of at ≡ [] → at ≡ [
 no_lists [] e = refl
 no_lists (fs ∷ at) e = absurd (let n = ap length e in omega (arith, n))
 
-pub open-by : (problem : Problem) (cap : ℕ) (l : LiftedData) → IsPickedOf (data_of problem) cap l
-    → (problem.at ≢ []) ⊎ (HasDim l.prime l.variables (l.denominator.terms ∷ term_lists l.ideal) 0 → ⊥) → IsOpen (data_of problem) l.denominator.terms
-open-by problem cap l picked (inl named) = inl (λ e. named (no_lists problem.at e))
-open-by problem cap l picked (inr not) =
+pub unserved-by : (problem : Problem) (cap : ℕ) (l : LiftedData) → IsPickedOf (data_of problem) cap l
+    → (problem.at ≢ []) ⊎ (HasDim l.prime l.variables (l.denominator.terms ∷ term_lists l.ideal) 0 → ⊥) → IsUnserved (data_of problem) l.denominator.terms
+unserved-by problem cap l picked (inl named) = inl (λ e. named (no_lists problem.at e))
+unserved-by problem cap l picked (inr not) =
     inr (something-left (data_of problem) cap l.denominator.terms picked.has.chosen (λ h. not ((picked.dimension 0).1 h)))
 
-pub closed-by : (problem : Problem) (cap : ℕ) (l : LiftedData) → IsPickedOf (data_of problem) cap l
-    → (problem.at ≡ []) × HasDim l.prime l.variables (l.denominator.terms ∷ term_lists l.ideal) 0 → IsClosed (data_of problem) l.denominator.terms
-closed-by problem cap l picked closed = record { unnamed = ap (map terms_of) closed.0; nothing_left = (picked.dimension 0).0 closed.1 }
+pub served-by : (problem : Problem) (cap : ℕ) (l : LiftedData) → IsPickedOf (data_of problem) cap l
+    → (problem.at ≡ []) × HasDim l.prime l.variables (l.denominator.terms ∷ term_lists l.ideal) 0 → IsServed (data_of problem) l.denominator.terms
+served-by problem cap l picked served = record { unnamed = ap (map terms_of) served.0; nothing_left = (picked.dimension 0).0 served.1 }
 
 -- ---- the answer
 
@@ -141,11 +141,11 @@ polys-of : (p n : ℕ) (fs : List Polynomial) → All (IsFit p n) fs → All (Is
 polys-of p n [] a = All-nil (IsPoly p n)
 polys-of p n (f ∷ fs) a = All-cons (IsPoly p n) f.terms (terms_of fs) (All-head (IsFit p n) f fs a).poly (polys-of p n fs (All-tail (IsFit p n) f fs a))
 
--- a closed problem has the plain answer
+-- a problem that is served has the plain answer
 pub plain-solves : (problem : Problem) (cap : ℕ) (l : LiftedData) (text : List ℕ) → IsFitProblem problem → IsPickedOf (data_of problem) cap l
-    → IsClosed (data_of problem) l.denominator.terms → text ≡ answer_text (plain_answer (data_of problem) l.denominator.terms) → Solves (data_of problem) cap 0 text
-plain-solves problem cap l text fit picked closed is =
-    answered l.denominator.terms picked.has closed refl
+    → IsServed (data_of problem) l.denominator.terms → text ≡ answer_text (plain_answer (data_of problem) l.denominator.terms) → Solves (data_of problem) cap 0 text
+plain-solves problem cap l text fit picked served is =
+    answered l.denominator.terms picked.has served refl
     (plain_answer (data_of problem) l.denominator.terms, plain_answers (data_of problem) l.denominator.terms is_plain, is)
   where
     n : ℕ
@@ -153,7 +153,7 @@ plain-solves problem cap l text fit picked closed is =
 
     is_plain : IsPlain (data_of problem) l.denominator.terms
     is_plain = record {
-      unnamed = closed.unnamed;
+      unnamed = served.unnamed;
       curve = record {
         prime = subst IsPrime picked.lifted.prime picked.known.prime;
         ideal = polys-of problem.prime n problem.generators fit.generators;
@@ -162,5 +162,5 @@ plain-solves problem cap l text fit picked closed is =
             (subst (λ (q : ℕ). IsPoly q l.variables l.denominator.terms) picked.lifted.prime picked.known.denominator.poly);
         regular = (chosen-good (data_of problem) cap l.denominator.terms picked.has.chosen).allowed.regular;
       };
-      dimension = closed.nothing_left;
+      dimension = served.nothing_left;
     }

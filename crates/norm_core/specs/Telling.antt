@@ -23,11 +23,11 @@ pub record HasDenominator (problem : ProblemData) (cap : ℕ) (d : List Term) : 
   pub chosen : IsChosen problem cap d
 
 -- points are named, or something is left modulo I + (d): no answer is given to such a problem yet
-abbrev pub IsOpen : ProblemData → List Term → Type 0
-IsOpen problem d = (problem.at ≢ []) ⊎ ((N : ℕ) × (0 < N) × HasDimModulo (curve_of problem d) N)
+abbrev pub IsUnserved : ProblemData → List Term → Type 0
+IsUnserved problem d = (problem.at ≢ []) ⊎ ((N : ℕ) × (0 < N) × HasDimModulo (curve_of problem d) N)
 
 -- no points are named, and nothing is left modulo I + (d)
-pub record IsClosed (problem : ProblemData) (d : List Term) : Type 0 where
+pub record IsServed (problem : ProblemData) (d : List Term) : Type 0 where
   pub unnamed : problem.at ≡ []
   pub nothing_left : HasDimModulo (curve_of problem d) 0
 
@@ -36,9 +36,9 @@ pub record IsClosed (problem : ProblemData) (d : List Term) : Type 0 where
 pub data Solves (problem : ProblemData) (cap status : ℕ) (text : List ℕ) : Type 0 where
   stopped : (stop : PickStop) → stop ≢ Memory → IsCause problem cap stop → status ≡ stop_status stop → text ≡ stop_line stop
       → Solves problem cap status text
-  not_yet : (d : List Term) → HasDenominator problem cap d → IsOpen problem d → status ≡ 40 → text ≡ not_yet_line
+  not_yet : (d : List Term) → HasDenominator problem cap d → IsUnserved problem d → status ≡ 40 → text ≡ not_yet_line
       → Solves problem cap status text
-  answered : (d : List Term) → HasDenominator problem cap d → IsClosed problem d → status ≡ 0 → IsAnswerText problem d text
+  answered : (d : List Term) → HasDenominator problem cap d → IsServed problem d → status ≡ 0 → IsAnswerText problem d text
       → Solves problem cap status text
 
 -- ---- inputs
@@ -66,7 +66,7 @@ pub record HasAnswer (cap : ℕ) (input : List ℕ) : Type 0 where
   pub text : IsTextOf input parts
   pub sound : first_fault parts ≡ None
   pub chosen : HasDenominator (problem_of parts) cap denominator
-  pub closed : IsClosed (problem_of parts) denominator
+  pub served : IsServed (problem_of parts) denominator
 
 -- these bytes were taken from the source, to its end unless they are too long, and this is told of them
 pub record Told (cap : ℕ) (left left_now : Option (List ℕ)) (status : ℕ) (text : List ℕ) : Type 0 where

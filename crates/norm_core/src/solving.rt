@@ -8,7 +8,7 @@ ghost use Rattle.norm_text.specs.Answer.{answer_text};
 ghost use Rattle.norm_text.specs.Plain.{plain_answer};
 ghost use Rattle.norm_text.specs.Shown as shown;
 ghost use Rattle.norm_core.specs.Refusals.{line_of, status_of};
-ghost use Rattle.norm_core.specs.Telling.{HasDenominator, IsClosed, Solves, HasStatus};
+ghost use Rattle.norm_core.specs.Telling.{HasDenominator, IsServed, Solves, HasStatus};
 ghost use Rattle.polys.specs.declared.term.Term.{Term};
 
 use crate::refusals::Refusal;
@@ -44,7 +44,7 @@ fn is_nothing_left(alloc: Global, lifted: &Lifted) -> Result<bool, NoMemory>
 }
 
 // Whether no points are named, and nothing is left modulo the ideal and the denominator.
-fn is_closed(alloc: Global, problem: &Problem, lifted: &Lifted) -> Result<bool, NoMemory>
+fn is_served(alloc: Global, problem: &Problem, lifted: &Lifted) -> Result<bool, NoMemory>
     ensures yes { IfOk result (λ yes. IsTrue yes → (problem.now.at ≡ []) × HasDim lifted.now.prime lifted.now.variables (lifted.now.denominator.terms ∷ term_lists lifted.now.ideal) 0) }
     ensures no { IfOk result (λ yes. yes ≡ false → (problem.now.at ≢ []) ⊎ (HasDim lifted.now.prime lifted.now.variables (lifted.now.denominator.terms ∷ term_lists lifted.now.ideal) 0 → ⊥)) }
 {
@@ -100,11 +100,11 @@ pub fn solve(alloc: Global, problem: Problem, cap: u32) -> Result<List<u8>, Refu
     ensures answered { IfOk result (λ text. Solves (data_of problem) cap 0 text) }
     ensures refused { IfErr result (λ refusal. (status_of refusal ≡ 30) ⊎ Solves (data_of problem) cap (status_of refusal) (line_of refusal)) }
     ensures exact { (status : ℕ) (text : List ℕ) → Solves (data_of problem) cap status text → HasStatus result status }
-    ensures complete { (d : List Term) → HasDenominator (data_of problem) cap d → IsClosed (data_of problem) d → HasStatus result 0 }
+    ensures complete { (d : List Term) → HasDenominator (data_of problem) cap d → IsServed (data_of problem) d → HasStatus result 0 }
 {
     let lifted = pick(alloc, &problem, cap)?;
     let _basis = lifted.ideal_basis();
-    if !is_closed(alloc, &problem, &lifted)? {
+    if !is_served(alloc, &problem, &lifted)? {
         return Err(Refusal::NotYet);
     }
     Ok(plain_text(alloc, problem, lifted.denominator())?)

@@ -4,7 +4,7 @@ use Rattle.singular_text.specs.Problem.{data_of}
 use Rattle.norm_text.specs.Answer.{answer_text}
 use Rattle.norm_text.specs.Plain.{plain_answer}
 use Rattle.norm_core.specs.Telling.{not_yet}
-use Rattle.norm_core.proofs.ProblemLemmas.{no_error, cause-refused, IsPickedOf, open-by, closed-by, open-status, open-not_answered, closed-status, plain-solves}
+use Rattle.norm_core.proofs.ProblemLemmas.{no_error, cause-refused, IsPickedOf, unserved-by, served-by, unserved-status, unserved-not_answered, served-status, plain-solves}
 use Rattle.norm_core.proofs.solving.solve.Goals as goal
 
 pub returns-in_err-lifted-clause-refused : goal.returns-in_err-lifted-clause-refused
@@ -21,7 +21,7 @@ returns-then-not-branch-clause-refused c =
       has = record { proper = known.proper; chosen = known.chosen };
       dimension = known.dimension;
     } in
-    inr (not_yet c.in_ok-lifted.lifted.denominator.terms picked.has (open-by c.args.problem c.args.cap c.in_ok-lifted.lifted picked (c.in_ok-is_closed.ensures.no (cc))) refl refl)
+    inr (not_yet c.in_ok-lifted.lifted.denominator.terms picked.has (unserved-by c.args.problem c.args.cap c.in_ok-lifted.lifted picked (c.in_ok-is_served.ensures.no (cc))) refl refl)
 
 pub returns-then-not-branch-clause-exact : goal.returns-then-not-branch-clause-exact
 returns-then-not-branch-clause-exact c status text solves =
@@ -32,12 +32,12 @@ returns-then-not-branch-clause-exact c status text solves =
       has = record { proper = known.proper; chosen = known.chosen };
       dimension = known.dimension;
     } in
-    inl (open-status (data_of c.args.problem) c.args.cap c.in_ok-lifted.lifted.denominator.terms picked.has
+    inl (unserved-status (data_of c.args.problem) c.args.cap c.in_ok-lifted.lifted.denominator.terms picked.has
     (λ stop not cause. no_error (known.exact stop not cause)) (λ proper d chosen. known.complete proper d chosen)
-    (open-by c.args.problem c.args.cap c.in_ok-lifted.lifted picked (c.in_ok-is_closed.ensures.no (cc))) status text solves)
+    (unserved-by c.args.problem c.args.cap c.in_ok-lifted.lifted picked (c.in_ok-is_served.ensures.no (cc))) status text solves)
 
 pub returns-then-not-branch-clause-complete : goal.returns-then-not-branch-clause-complete
-returns-then-not-branch-clause-complete c d has closed =
+returns-then-not-branch-clause-complete c d has served =
     let known = c.in_ok-lifted.ensures in
     let picked : IsPickedOf (data_of c.args.problem) c.args.cap c.in_ok-lifted.lifted = record {
       lifted = known.lifted;
@@ -46,9 +46,9 @@ returns-then-not-branch-clause-complete c d has closed =
       dimension = known.dimension;
     } in
     absurd
-    (open-not_answered (data_of c.args.problem) c.args.cap c.in_ok-lifted.lifted.denominator.terms picked.has
+    (unserved-not_answered (data_of c.args.problem) c.args.cap c.in_ok-lifted.lifted.denominator.terms picked.has
     (λ stop not cause. no_error (known.exact stop not cause)) (λ proper e chosen. known.complete proper e chosen)
-    (open-by c.args.problem c.args.cap c.in_ok-lifted.lifted picked (c.in_ok-is_closed.ensures.no (cc))) d has closed)
+    (unserved-by c.args.problem c.args.cap c.in_ok-lifted.lifted picked (c.in_ok-is_served.ensures.no (cc))) d has served)
 
 pub returns-clause-answered : goal.returns-clause-answered
 returns-clause-answered c =
@@ -60,7 +60,7 @@ returns-clause-answered c =
       dimension = known.dimension;
     } in
     plain-solves c.args.problem c.args.cap c.in_ok-lifted.lifted c.in_ok-plain_text.field-0 c.requires.fit picked
-    (closed-by c.args.problem c.args.cap c.in_ok-lifted.lifted picked (c.in_ok-is_closed.ensures.yes (cc)))
+    (served-by c.args.problem c.args.cap c.in_ok-lifted.lifted picked (c.in_ok-is_served.ensures.yes (cc)))
     (c.in_ok-plain_text.ensures ∙ ap (λ f. answer_text (plain_answer (data_of c.args.problem) f.terms)) c.denominator.ensures)
 
 pub returns-clause-exact : goal.returns-clause-exact
@@ -72,6 +72,6 @@ returns-clause-exact c status text solves =
       has = record { proper = known.proper; chosen = known.chosen };
       dimension = known.dimension;
     } in
-    inl (closed-status (data_of c.args.problem) c.args.cap c.in_ok-lifted.lifted.denominator.terms picked.has
+    inl (served-status (data_of c.args.problem) c.args.cap c.in_ok-lifted.lifted.denominator.terms picked.has
     (λ stop not cause. no_error (known.exact stop not cause)) (λ proper d chosen. known.complete proper d chosen)
-    (closed-by c.args.problem c.args.cap c.in_ok-lifted.lifted picked (c.in_ok-is_closed.ensures.yes (cc))) status text solves)
+    (served-by c.args.problem c.args.cap c.in_ok-lifted.lifted picked (c.in_ok-is_served.ensures.yes (cc))) status text solves)
