@@ -93,6 +93,8 @@ fn problems_are_answered(rt: HostRuntime) -> Result<(), Fail> {
 #[test]
 fn denominators_are_refused(rt: HostRuntime) -> Result<(), Fail> {
     let crossed = "ring r = 5,(x,y),dp; ideal I = x*y; poly d = x;";
+    // The dimension modulo d^2 is twice that modulo d, and yet x times x is in the ideal.
+    let double = "ring r = 7,(x),dp; ideal I = x2; poly d = x;";
     let plane = "ring r = 5,(x,y),dp; ideal I = 0; poly d = x;";
     let none = "ring r = 5,(x,y),dp; ideal I = 0;";
     let four = "ring r = 7,(w,x,y,z),dp; ideal I = w-x,x-y;";
@@ -100,6 +102,7 @@ fn denominators_are_refused(rt: HostRuntime) -> Result<(), Fail> {
     let wide = "ring r = 7,(x,y),dp; ideal I = y5-x6; poly d = x60;";
     for (input, status, line) in [
         (crossed, 8, "refused: zero divisor\n"),
+        (double, 8, "refused: zero divisor\n"),
         (plane, 9, "refused: infinite\n"),
         (none, 7, "refused: no denominator\n"),
         (four, 7, "refused: no denominator\n"),
