@@ -80,7 +80,9 @@ fn problems_are_answered(rt: HostRuntime) -> Result<(), Fail> {
         );
     }
     let named = "ring r = 7,(x),dp; ideal I = x-1; poly d = x; at x-1;";
-    for input in [CUSP, named] {
+    // Six partial derivatives are 0, and x+y is a sum of the two behind them.
+    let late = "ring r = 5,(x,y),dp; ideal I = 0,0,0,x*y;";
+    for input in [CUSP, named, late] {
         let line = "refused: not yet\n";
         assert!(rt;
             gives(rt.alloc(), &["alone"], input, 40, line)?,
