@@ -9,9 +9,9 @@ ghost use Rattle.std.specs.Prelude.{◌≡◌, ◌≤◌, ◌<◌, All, IfOk, On
 ghost use Rattle.polys.specs.Curve.{IsOver};
 ghost use Rattle.polys.specs.Terms.{IsPoly};
 
+use lists::{List, NoMemory};
 use module_basis::{BasisStop, Gens, graded_basis};
 use monomials::Mono;
-use norm_outside::{List, NoMemory};
 use polys::{Poly, Term};
 use prime_field::Prime;
 use std::alloc::Global;

@@ -1,5 +1,5 @@
 // A point of a curve as plain data.
-use norm_outside::List;
+use lists::List;
 use polys::Poly;
 
 /// A point of a curve: the reduced basis of its maximal ideal in rising order of the leads, and its residue degree.

@@ -2,7 +2,7 @@
 ghost use Rattle.std.specs.Prelude.{◌≡◌, IfOk};
 ghost use Rattle.denominator_module.specs.Module.{first, second};
 
-use norm_outside::NoMemory;
+use lists::NoMemory;
 use polys::{Poly, Term};
 use std::alloc::{AllocError, Global};
 

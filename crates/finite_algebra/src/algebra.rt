@@ -5,7 +5,7 @@ ghost use Rattle.finite_algebra.specs.Elements.{BasisLawsSuffice};
 
 use super::multiples::{add_multiples, copy_of, zero_row};
 use super::projecting::{at_all_places, free_places, image, image_products, reduced_units};
-use norm_outside::{List, NoMemory};
+use lists::{List, NoMemory};
 use prime_field::Prime;
 use row_space::Space;
 use std::marker::Model;

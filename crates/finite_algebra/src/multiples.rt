@@ -5,7 +5,7 @@ ghost use Rattle.row_space.specs.Sums.{weighted};
 ghost use Rattle.row_space.specs.Echelon.{IsRow};
 
 use lane_rows::axpy;
-use norm_outside::{List, NoMemory};
+use lists::{List, NoMemory};
 use prime_field::Prime;
 use std::alloc::Global;
 

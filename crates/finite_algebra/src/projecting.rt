@@ -6,7 +6,7 @@ ghost use Rattle.row_space.specs.Subspace.{IsReduced, product};
 ghost use Rattle.finite_algebra.specs.Projections.{IsClass, AreFree, images_of_products};
 
 use super::multiples::{add_multiples, zero_row};
-use norm_outside::{List, NoMemory};
+use lists::{List, NoMemory};
 use prime_field::Prime;
 use row_space::Space;
 use std::alloc::Global;

@@ -5,7 +5,7 @@ ghost use Rattle.finite_algebra.specs.Projections.{IsIdealOf};
 
 use super::Algebra;
 use super::multiples::{copy_of, zero_row};
-use norm_outside::{List, NoMemory};
+use lists::{List, NoMemory};
 use prime_field::Prime;
 use row_space::Space;
 use std::alloc::Global;

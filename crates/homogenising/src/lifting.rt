@@ -5,7 +5,7 @@ ghost use Rattle.homogenising.specs.Laws.{IsHomogeneousPoly};
 ghost use Rattle.monomials.specs.Mono.{IsMono};
 ghost use Rattle.polys.specs.Terms.{EachMono, IsPoly, degree_of};
 
-use norm_outside::NoMemory;
+use lists::NoMemory;
 use polys::{Poly, Term};
 use std::alloc::{AllocError, Global};
 

@@ -5,8 +5,8 @@ ghost use Rattle.jacobian_pick.specs.Lists.{polynomials, IsUpTo};
 ghost use Rattle.module_basis.specs.Gens.{term_lists};
 ghost use Rattle.polys.specs.Terms.{one};
 
+use lists::{List, NoMemory};
 use monomials::Mono;
-use norm_outside::{List, NoMemory};
 use polys::{Poly, Term};
 use prime_field::Prime;
 use std::alloc::Global;

@@ -7,7 +7,7 @@ ghost use Rattle.module_basis.specs.Gens.{term_lists};
 use crate::jacobian::jacobian;
 use crate::membership::{kept, variables_of};
 use crate::sums::{sums_by_numbers, sums_by_variables};
-use norm_outside::{List, NoMemory};
+use lists::{List, NoMemory};
 use polys::Poly;
 use singular_text::Problem;
 use std::alloc::Global;

@@ -6,8 +6,8 @@ ghost use Rattle.module_basis.specs.Gens.{term_lists};
 ghost use Rattle.polys.specs.Curve.{IsOver};
 ghost use Rattle.polys.specs.Ideal.{InIdeal};
 
+use lists::{List, NoMemory};
 use module_basis::remainder;
-use norm_outside::{List, NoMemory};
 use polys::Poly;
 use singular_text::Problem;
 use std::alloc::Global;

@@ -4,8 +4,8 @@ ghost use Rattle.jacobian_pick.specs.Candidates.{over_pairs, over_others, number
 ghost use Rattle.jacobian_pick.specs.Lists.{polynomials, IsUpTo};
 ghost use Rattle.module_basis.specs.Gens.{term_lists};
 
+use lists::{List, NoMemory};
 use monomials::Mono;
-use norm_outside::{List, NoMemory};
 use polys::{Poly, Term};
 use prime_field::Prime;
 use std::alloc::Global;

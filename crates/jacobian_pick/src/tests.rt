@@ -6,8 +6,8 @@ ghost use Rattle.jacobian_pick.specs.Lists.{IsReady, IsUpTo};
 
 use crate::choosing::ideal_basis;
 use crate::{PickStop, candidates, pick};
+use lists::List;
 use monomials::Mono;
-use norm_outside::List;
 use polys::{Poly, Term};
 use prime_field::Prime;
 use singular_text::{Letters, Problem};

@@ -9,9 +9,9 @@ ghost use Rattle.polys.specs.Terms.{degree_of};
 
 use denominator_module::{first_part, second_part};
 use homogenising::{dehomogenised, homogenised_to};
+use lists::{List, NoMemory};
 use module_basis::Gens;
 use monomials::Mono;
-use norm_outside::{List, NoMemory};
 use polys::{Poly, Term};
 use prime_field::Prime;
 use std::alloc::Global;

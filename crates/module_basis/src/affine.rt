@@ -9,7 +9,7 @@ ghost use Rattle.polys.specs.Reduced.{IsReducedBasis};
 ghost use Rattle.polys.specs.Terms.{IsMonic, IsPoly, degree_of};
 
 use crate::{division, reduction};
-use norm_outside::{List, NoMemory};
+use lists::{List, NoMemory};
 use polys::Poly;
 use prime_field::Prime;
 use std::alloc::Global;

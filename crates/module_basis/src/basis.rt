@@ -18,7 +18,7 @@ use crate::leads::degree_at;
 use crate::reduction::interreduced;
 use crate::{BasisStop, Gens};
 use homogenising::laws::{ideals_have_bases_by_leads, leads_lose_the_variable, leads_stay_leads};
-use norm_outside::{List, NoMemory};
+use lists::{List, NoMemory};
 use polys::{Poly, Term};
 use prime_field::Prime;
 use std::alloc::{AllocError, Global};

@@ -8,7 +8,7 @@ ghost use Rattle.homogenising.specs.Homogenised.{all_homogenised};
 ghost use Rattle.module_basis.specs.Gens.{AreGens, term_lists, homogenised_of, lifted};
 
 use homogenising::laws::homogenising_is_undone;
-use norm_outside::{List, NoMemory};
+use lists::{List, NoMemory};
 use polys::{Poly, Term};
 use prime_field::Prime;
 use std::alloc::{AllocError, Global};

@@ -11,8 +11,8 @@ ghost use Rattle.module_basis.specs.Growing.{IsPair, IsSettledPair, IsGrown};
 
 use crate::Gens;
 use crate::leads::{degree_at, lead_mono};
+use lists::NoMemory;
 use monomials::Mono;
-use norm_outside::NoMemory;
 use polys::{Poly, Term};
 use prime_field::Prime;
 

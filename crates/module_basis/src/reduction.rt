@@ -8,8 +8,8 @@ ghost use Rattle.module_basis.specs.Reduction.{IsTailReduced, AreSorted, IsCore,
 
 use crate::division::{find_divisor, remainder};
 use crate::leads::lead_mono;
+use lists::NoMemory;
 use monomials::Mono;
-use norm_outside::NoMemory;
 use polys::{Poly, Term};
 use prime_field::Prime;
 use std::alloc::{AllocError, Global};

@@ -6,7 +6,8 @@ ghost use Rattle.norm_core.specs.Telling.{Tells, Told, HasAnswer, HasStatus, byt
 
 use crate::refusals::Refusal;
 use crate::solving::solve;
-use norm_outside::{List, ReadAll, Source, read_all};
+use lists::List;
+use norm_outside::{ReadAll, Source, read_all};
 use singular_text::read_problem;
 use std::alloc::Global;
 

@@ -3,7 +3,7 @@ ghost use Rattle.std.specs.Prelude.{◌≡◌};
 ghost use Rattle.norm_core.specs.Refusals.{fault_line, fault_status, limit_line, stop_line, stop_status, line_of, status_of};
 
 use jacobian_pick::PickStop;
-use norm_outside::NoMemory;
+use lists::NoMemory;
 use singular_text::{ReadFault, Which};
 
 /// Why there is no answer.

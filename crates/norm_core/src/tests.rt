@@ -1,7 +1,8 @@
 ghost use Rattle.std.specs.Prelude.{◌≡◌, ◌≢◌, ℕ, ◌<◌};
 
 use crate::run_alone;
-use norm_outside::{List, MemSink, MemSource, SoundSink, SoundSource};
+use lists::List;
+use norm_outside::{MemSink, MemSource, SoundSink, SoundSource};
 use std::alloc::{AllocError, Global};
 use std::test::Fail;
 

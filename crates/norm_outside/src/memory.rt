@@ -5,10 +5,10 @@ ghost use Rattle.std.specs.Io.KnownBytes.{ReadConsumes, WriteAppends};
 ghost use Rattle.norm_outside.specs.Causes.{HasCause};
 ghost use Rattle.norm_outside.specs.Memory.{FeedFails, Gives, GivesNothing, StoreFails, Takes, TakesNothing};
 
-use super::list::List;
+use super::Failed;
 use super::sink::Sink;
 use super::source::{Source, copy_from};
-use super::{Failed, NoMemory};
+use lists::{List, NoMemory};
 use std::alloc::Global;
 use std::marker::Model;
 
@@ -114,11 +114,8 @@ impl MemSink {
         requires { 0 < piece }
         ensures { IfOk result (λ sink. sink ≡ record { held = []; room = room; piece = piece; failing = failing; calls = 0; faults = 0 }) }
     {
-        let Ok(bytes) = Vec::with_capacity(alloc, room) else {
-            return Err(NoMemory);
-        };
         Ok(MemSink {
-            bytes,
+            bytes: Vec::with_capacity(alloc, room)?,
             room,
             piece,
             failing: failing.into_vec(),

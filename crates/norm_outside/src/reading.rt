@@ -3,8 +3,8 @@ ghost use Rattle.std.specs.Prelude.{◌≡◌, ℕ, ◌+◌, ◌<◌, ◌≤◌,
 ghost use Rattle.norm_outside.specs.Causes.{Rose};
 ghost use Rattle.norm_outside.specs.Bytes.{ReadToEnd, TookMore, TookAtMost};
 
-use super::list::List;
 use super::source::Source;
+use lists::List;
 use std::alloc::Global;
 
 // The room that is offered to the source at each call.

@@ -5,9 +5,9 @@ ghost use Rattle.std.specs.Io.KnownBytes.{ReadConsumes, WriteAppends};
 ghost use Rattle.norm_outside.specs.Causes.{HasCause, StillCountsHaveNoCause};
 
 use super::Failed;
-use super::list::List;
 use super::sink::Sink;
 use super::source::{Source, copy_from};
+use lists::List;
 use std::marker::Model;
 
 /// A source over bytes in memory that never fails. Contracts see it as the bytes left.

@@ -4,9 +4,10 @@ ghost use Rattle.std.specs.Io.KnownBytes.{ReadConsumes};
 ghost use Rattle.norm_outside.specs.Causes.{HasCause};
 
 use crate::{
-    Failed, List, MemSink, MemSource, ReadAll, SoundSink, SoundSource, Source, StdSink, StdSource,
+    Failed, MemSink, MemSource, ReadAll, SoundSink, SoundSource, Source, StdSink, StdSource,
     WriteStop, read_all, write_all_of,
 };
+use lists::List;
 use std::alloc::{AllocError, Global};
 use std::test::Fail;
 
@@ -50,17 +51,6 @@ fn write_sound(sink: &mut SoundSink, bytes: &[u8]) -> Result<(), WriteStop>
     ensures { IsOk result }
 {
     write_all_of(sink, bytes)
-}
-
-#[test]
-fn lists_keep_their_items(rt: HostRuntime) -> Result<(), Fail> {
-    let mut list = List::new(rt.alloc());
-    assert_eq!(rt; list.len(), 0);
-    assert!(rt; list.push(5u32).is_ok() && list.push(7).is_ok());
-    assert_eq!(rt; list.len(), 2);
-    assert_eq!(rt; list.as_slice(), [5, 7].as_slice());
-    assert_eq!(rt; list.into_vec().as_slice(), [5, 7].as_slice());
-    Ok(())
 }
 
 #[test]

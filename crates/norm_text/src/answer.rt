@@ -1,6 +1,6 @@
 // An answer as plain data.
 use curve_model::Point;
-use norm_outside::List;
+use lists::List;
 use polys::Poly;
 use prime_field::Prime;
 use singular_text::Letters;

@@ -8,7 +8,7 @@ ghost use Rattle.norm_text.specs.Joined.{separator_part, joined_rest};
 ghost use Rattle.norm_text.specs.Shown.{point_of, data_of};
 
 use crate::{Answer, PointLine};
-use norm_outside::{List, NoMemory};
+use lists::{List, NoMemory};
 use polys::Poly;
 use singular_text::{Letters, print_bytes, print_number, print_poly};
 use std::alloc::Global;

@@ -3,8 +3,8 @@ ghost use Rattle.std.specs.Prelude.{◌≡◌, IfOk, All};
 
 use crate::{Answer, PointLine, print_answer};
 use curve_model::Point;
+use lists::List;
 use monomials::Mono;
-use norm_outside::List;
 use polys::{Poly, Term};
 use prime_field::Prime;
 use singular_text::Letters;

@@ -2,7 +2,7 @@
 ghost use Rattle.std.specs.Prelude.{◌≡◌, ◌↔◌, IsTrue};
 
 use crate::Poly;
-use norm_outside::List;
+use lists::List;
 use prime_field::Prime;
 
 /// The ring of the polynomials in the first `variables` variables over `prime` modulo `ideal`, with the polynomial

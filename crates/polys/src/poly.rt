@@ -5,7 +5,7 @@ ghost use Rattle.polys.specs.Terms.{normal, lead, degree_of, EachMono, IsMonicOf
 ghost use Rattle.polys.specs.Poly.{IsVector, IsPlain, sum_of, difference_of, product_of, term_multiple_of, power_of, derivative_of};
 
 use crate::{Term, terms};
-use norm_outside::NoMemory;
+use lists::NoMemory;
 use prime_field::Prime;
 use std::alloc::Global;
 use std::marker::Model;

@@ -6,7 +6,7 @@ ghost use Rattle.race_core.specs.Runs.{IsStep, IsReplay};
 
 use crate::event::Event;
 use crate::parts::Parts;
-use norm_outside::NoMemory;
+use lists::NoMemory;
 use std::alloc::Global;
 use std::marker::Model;
 

@@ -5,7 +5,7 @@ ghost use Rattle.race_core.specs.Moves.{Allows, next, added};
 ghost use Rattle.race_core.specs.Parts.{state_of};
 
 use crate::event::Event;
-use norm_outside::{List, NoMemory};
+use lists::{List, NoMemory};
 use std::alloc::Global;
 
 /// The numbers and lists of a core.

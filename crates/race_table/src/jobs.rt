@@ -3,7 +3,7 @@ ghost use Rattle.std.specs.Prelude.{◌≡◌, ℕ, ◌<◌, ◌≤◌, ◌↔�
 ghost use Rattle.race_table.specs.Jobs.{MatchProgress, IfStranger};
 
 use crate::claim::{OpenLook, Won};
-use norm_outside::NoMemory;
+use lists::NoMemory;
 
 /// What an enlargement came to.
 #[derive(Drop)]

@@ -8,7 +8,7 @@ use crate::claim::{Look, OpenLook, Ticket, Win, Won};
 use crate::pass::Pass;
 use crate::view::{Sizes, View};
 use atomic_table::{Play, Table, TableRule};
-use norm_outside::NoMemory;
+use lists::NoMemory;
 use race_core::{sound_states_account, soundness_is_kept, start_is_sound};
 use std::alloc::Global;
 

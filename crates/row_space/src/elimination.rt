@@ -5,7 +5,7 @@ ghost use Rattle.row_space.specs.Sums.{Covers};
 ghost use Rattle.row_space.specs.Echelon.{IsRow, IsEchelon, IsRest, IsCleared, entries_at};
 
 use lane_rows::{axpy, scale};
-use norm_outside::{List, NoMemory};
+use lists::{List, NoMemory};
 use prime_field::Prime;
 use std::alloc::Global;
 use std::mem;

@@ -2,7 +2,7 @@
 ghost use Rattle.std.specs.Prelude.{◌≡◌, ℕ, ◌+◌, ◌<◌, List, [], ◌++◌, length, slice_index_or, slice_set, replicate, IfOk};
 
 use super::elimination::copy_of;
-use norm_outside::{List, NoMemory};
+use lists::{List, NoMemory};
 use std::alloc::Global;
 
 // The one row, and then the other.

@@ -4,7 +4,7 @@ ghost use Rattle.row_space.specs.Echelon.{IsRow};
 ghost use Rattle.row_space.specs.Subspace.{IsIn, IsZero, product};
 
 use super::Space;
-use norm_outside::{List, NoMemory};
+use lists::{List, NoMemory};
 use prime_field::Prime;
 use std::alloc::Global;
 

@@ -6,7 +6,7 @@ use super::elimination::{add_row, at_pivots, copy_of, reduce_by};
 use super::joining::{joined, joined_length, unit_rows, zero_row};
 use comm_ring::spans_have_a_dimension;
 use lane_rows::first_nonzero;
-use norm_outside::{List, NoMemory};
+use lists::{List, NoMemory};
 use prime_field::Prime;
 use std::alloc::Global;
 use std::marker::Model;

@@ -4,7 +4,7 @@ ghost use Rattle.row_space.specs.Echelon.{IsRow};
 
 use super::elimination::copy_of;
 use super::{Insert, Space, kernel};
-use norm_outside::{List, NoMemory};
+use lists::{List, NoMemory};
 use prime_field::Prime;
 use std::alloc::Global;
 use std::process::Abort;

@@ -6,7 +6,7 @@ ghost use Rattle.std.specs.Prelude.{◌≡◌, ◌≤◌, length, IfOk, OnOk};
 ghost use Rattle.lane_rows.specs.Rows.{AreResidues};
 
 use lane_rows::axpy;
-use norm_outside::NoMemory;
+use lists::NoMemory;
 use prime_field::Prime;
 use row_space::Space;
 use std::alloc::Global;

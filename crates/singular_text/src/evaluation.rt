@@ -16,8 +16,8 @@ use crate::values::{
     DEGREE, digit_value, front_modulo, number_modulo, number_up_to, place, run_monomial,
 };
 use crate::words::{Class, class_of};
+use lists::List;
 use monomials::Mono;
-use norm_outside::List;
 use polys::{Poly, Term, degrees_are_bounded, leads_multiply, polynomials_are_a_ring};
 use prime_field::Prime;
 use std::alloc::Global;

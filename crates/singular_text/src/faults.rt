@@ -1,7 +1,7 @@
 // What keeps a text from being read.
 ghost use Rattle.std.specs.Prelude.{◌≡◌};
 
-use norm_outside::NoMemory;
+use lists::NoMemory;
 use thiserror::Error;
 
 /// The counted quantities of a problem, in the order in which they are checked: at most 6 variables, 12 generators,

@@ -13,8 +13,8 @@ use crate::letters::Letters;
 use crate::printing::print_poly;
 use crate::values::{digit_value, place, raised};
 use crate::words::is_among;
+use lists::NoMemory;
 use monomials::Mono;
-use norm_outside::NoMemory;
 use polys::{Poly, Term};
 use prime_field::Prime;
 use std::alloc::Global;
@@ -243,7 +243,7 @@ fn are_canonical(p: u32, terms: &[Term]) -> bool
 fn is_text(alloc: Global, letters: &Letters, poly: &Poly, bytes: &[u8]) -> Result<bool, NoMemory>
     ensures { IfOk result (λ b. IsTrue b ↔ (bytes.now ≡ poly_text poly.now.prime letters.now poly.now.terms)) }
 {
-    let mut text = norm_outside::List::new(alloc);
+    let mut text = lists::List::new(alloc);
     print_poly(letters, poly, &mut text)?;
     Ok(text.as_slice() == bytes)
 }

@@ -7,8 +7,8 @@ ghost use Rattle.singular_text.specs.Printing.{Prints};
 
 use crate::Letters;
 use itoa::Buffer;
+use lists::{List, NoMemory};
 use monomials::Mono;
-use norm_outside::{List, NoMemory};
 use polys::{Poly, Term};
 use prime_field::Prime;
 

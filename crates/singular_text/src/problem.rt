@@ -18,7 +18,7 @@ use crate::ring::{begun_at, ring_at};
 use crate::scanning::{Place, Scan, scan_statements};
 use crate::tokens::next_token;
 use crate::values::number_up_to;
-use norm_outside::{List, NoMemory};
+use lists::{List, NoMemory};
 use polys::Poly;
 use prime_field::Prime;
 use std::alloc::Global;

@@ -1,6 +1,6 @@
 // Problems as texts, each with what is read of it. The values are computed by hand.
 use crate::{Problem, ReadFault, Which, print_poly, read_problem};
-use norm_outside::List;
+use lists::List;
 use polys::Poly;
 use std::alloc::Global;
 use std::test::Fail;

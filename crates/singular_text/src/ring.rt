@@ -5,7 +5,7 @@ ghost use Rattle.singular_text.specs.Reading.{Gives, after_token, after_name, nu
 
 use crate::tokens::next_token;
 use crate::words::{is_name, is_number, is_token};
-use norm_outside::{List, NoMemory};
+use lists::{List, NoMemory};
 use std::alloc::Global;
 
 // The text behind this token.

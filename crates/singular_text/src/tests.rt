@@ -2,8 +2,8 @@
 ghost use Rattle.std.specs.Prelude.{◌≡◌, IfOk};
 
 use crate::{Letters, PolyFault, print_poly, read_poly};
+use lists::List;
 use monomials::Mono;
-use norm_outside::List;
 use polys::{Poly, Term};
 use prime_field::Prime;
 use std::alloc::Global;

@@ -9,8 +9,8 @@ ghost use Rattle.graded_modules.specs.Vector.{lead_mono};
 ghost use Rattle.standard_monomials.specs.Finding.{terms_of, HasDimUpTo, HasDimAbove, IfListed, IsListed, HasPowerLead, Gains, GainsMultiples};
 ghost use Rattle.standard_monomials.specs.Standard.{IsStandard, AreStandard, IsRising};
 
+use lists::{List, NoMemory};
 use monomials::Mono;
-use norm_outside::{List, NoMemory};
 use polys::Poly;
 use prime_field::Prime;
 use std::alloc::{AllocError, Global};

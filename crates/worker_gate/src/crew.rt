@@ -10,7 +10,7 @@ use crate::gate::Gate;
 use crate::member::Worker;
 use crate::report::{Report, Reports};
 use crate::worker::work;
-use norm_outside::{List, NoMemory};
+use lists::{List, NoMemory};
 use race_table::{BookOf, Job, Jobs, Pass, RaceTable};
 use std::alloc::Global;
 use std::sync::{Mutex, Wait};

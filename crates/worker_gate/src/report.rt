@@ -1,5 +1,5 @@
 // What became of a ticket.
-use norm_outside::List;
+use lists::List;
 use race_table::JobStop;
 
 /// How the work on a ticket ended.

@@ -2,7 +2,7 @@
 ghost use Rattle.std.specs.Prelude.{◌≡◌, ℕ, ◌≤◌};
 
 use super::*;
-use norm_outside::NoMemory;
+use lists::NoMemory;
 use race_table::{BookOf, Job, JobStop, Jobs, Join, OpenLook, Progress, RaceTable, Won};
 use std::alloc::Global;
 use std::process::Abort;

@@ -4,9 +4,9 @@ ghost use Rattle.polys.specs.Curve.{IsOver};
 ghost use Rattle.polys.specs.Terms.{IsPoly};
 
 use super::Lifted;
+use lists::List;
 use module_basis::BasisStop;
 use monomials::Mono;
-use norm_outside::List;
 use polys::{Poly, Term};
 use prime_field::Prime;
 use standard_monomials::Dimension;

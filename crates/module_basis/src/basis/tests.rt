@@ -9,8 +9,8 @@ ghost use Rattle.module_basis.specs.Gens.{AreGens, IsHomogeneousOver, term_lists
 use super::graded_basis;
 use crate::leads::{degree_at, lead_mono};
 use crate::{BasisStop, Gens, GradedBasis};
+use lists::List;
 use monomials::Mono;
-use norm_outside::List;
 use polys::{Poly, Term};
 use prime_field::Prime;
 use std::alloc::Global;

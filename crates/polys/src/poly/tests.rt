@@ -3,8 +3,8 @@ ghost use Rattle.std.specs.Prelude.{◌≡◌, IfOk, length};
 
 use super::Poly;
 use crate::{Curve, Term};
+use lists::List;
 use monomials::Mono;
-use norm_outside::List;
 use prime_field::Prime;
 use std::alloc::Global;
 use std::test::Fail;

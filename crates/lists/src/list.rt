@@ -1,5 +1,5 @@
 // A `Vec` that contracts see as the list of its items.
-ghost use Rattle.std.specs.Prelude.{◌≡◌, [], ◌∷◌, ◌++◌, length, OnOk, OnErr};
+ghost use Rattle.std.specs.Prelude.{◌≡◌, [], ◌∷◌, ◌++◌, length, IfOk, OnOk, OnErr};
 
 use super::NoMemory;
 use std::alloc::Global;
@@ -63,14 +63,40 @@ impl<T> List<T> {
 }
 
 impl<T: Drop> List<T> {
-    /// Puts `item` at the end. Where there is no memory for it, `item` is dropped and the list stays.
+    /// Puts `item` at the end. Out of memory, `item` is dropped and the list stays.
     pub fn push(&mut self, item: T) -> Result<(), NoMemory>
         ensures ok { OnOk result (self.new ≡ self.old ++ item ∷ []) }
         ensures err { OnErr result (self.new ≡ self.old) }
     {
-        match self.items.push(item) {
-            Ok(()) => Ok(()),
-            Err(_) => Err(NoMemory),
-        }
+        Ok(self.items.push(item)?)
+    }
+
+    /// Moves the items of `other` behind those of this list. Out of memory, both stay.
+    pub fn append(&mut self, other: &mut List<T>) -> Result<(), NoMemory>
+        ensures ok { OnOk result (self.new ≡ self.old ++ other.old) }
+        ensures emptied { OnOk result (other.new ≡ []) }
+        ensures err { OnErr result (self.new ≡ self.old) }
+        ensures kept { OnErr result (other.new ≡ other.old) }
+    {
+        Ok(self.items.append(&mut other.items)?)
+    }
+}
+
+impl<T: Copy> List<T> {
+    /// Copies `items` behind those of this list. Out of memory, the list stays.
+    pub fn extend_from_slice(&mut self, items: &[T]) -> Result<(), NoMemory>
+        ensures ok { OnOk result (self.new ≡ self.old ++ items.now) }
+        ensures err { OnErr result (self.new ≡ self.old) }
+    {
+        Ok(self.items.extend_from_slice(items)?)
+    }
+
+    /// A copy of `items`.
+    pub fn from_slice(alloc: Global, items: &[T]) -> Result<List<T>, NoMemory>
+        ensures { IfOk result (λ list. list ≡ items.now) }
+    {
+        Ok(List {
+            items: Vec::from_slice(alloc, items)?,
+        })
     }
 }
