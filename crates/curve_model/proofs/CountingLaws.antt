@@ -42,12 +42,12 @@ zeros [] h = tt
 zeros (c ∷ cs) h = (All-head (λ e. e ≡ 0) c cs h, zeros cs (All-tail (λ e. e ≡ 0) c cs h))
 
 module _ (A : CurveData) (c : IsFinite A) where
-  unfrac_all : (fs : List Fraction) (h : All (IsFraction A) fs) → map (unfrac A c) (frac_all A c fs h) ≡ fs
+  pub unfrac_all : (fs : List Fraction) (h : All (IsFraction A) fs) → map (unfrac A c) (frac_all A c fs h) ≡ fs
   unfolding frac_all
   unfrac_all [] h = refl
   unfrac_all (f ∷ fs) h = ap (λ l. f ∷ l) (unfrac_all fs (All-tail (IsFraction A) f fs h))
 
-  length-frac_all : (fs : List Fraction) (h : All (IsFraction A) fs) → length (frac_all A c fs h) ≡ length fs
+  pub length-frac_all : (fs : List Fraction) (h : All (IsFraction A) fs) → length (frac_all A c fs h) ≡ length fs
   length-frac_all fs h = sym (length-map (frac_all A c fs h) (unfrac A c)) ∙ ap length (unfrac_all fs h)
 
   low_up : (fs : List Fraction) (h : All (IsFraction A) fs) → AreIndependent A fs → (cs : List ℕ) → length cs ≡ length (frac_all A c fs h) → EachN (λ e. e < A.prime) cs
@@ -57,7 +57,7 @@ module _ (A : CurveData) (c : IsFinite A) where
       (in_down A c (Delta.combination A cs (map (unfrac A c) (frac_all A c fs h))) (combination_poly A c cs (frac_all A c fs h))
       (subst (Fr.InA (Q A c.curve) (d A c.curve)) (combination_is (Fr.fraction_ops (Q A c.curve) (d A c.curve)) (scal A c) cs (frac_all A c fs h) ∙ combination-frac A c cs (frac_all A c fs h)) w))))
 
-  independent_up : (fs : List Fraction) (h : All (IsFraction A) fs) → AreIndependent A fs → Independent (residue_ops A.prime) (Fr.fraction_space (Q A c.curve) (d A c.curve) A.prime (scalar A c)) (frac_all A c fs h)
+  pub independent_up : (fs : List Fraction) (h : All (IsFraction A) fs) → AreIndependent A fs → Independent (residue_ops A.prime) (Fr.fraction_space (Q A c.curve) (d A c.curve) A.prime (scalar A c)) (frac_all A c fs h)
   independent_up fs h i = Independence.independent_out (Curve A c.curve) (d A c.curve) (regular_curve A c.curve) A.prime c.curve.prime (scalar A c) (curve_map A c) (frac_all A c fs h) (low_up fs h i)
 
   locals_up : (P : List (List Term)) (q : ArePolys A P) (fs : List Fraction) (h : All (IsFraction A) fs) → All (Local A P) fs → All (λ x. Fr.LocalTo (Q A c.curve) (d A c.curve) (Contains (lift A.prime A.variables P q)) x.0 x.1) (frac_all A c fs h)
@@ -66,7 +66,7 @@ module _ (A : CurveData) (c : IsFinite A) where
   locals_up P q (f ∷ fs) h w = All-cons (λ x. Fr.LocalTo (Q A c.curve) (d A c.curve) (Contains (lift A.prime A.variables P q)) x.0 x.1) (frac A c f (All-head (IsFraction A) f fs h)) (frac_all A c fs (All-tail (IsFraction A) f fs h))
       (local_up A c.curve P q f (All-head (IsFraction A) f fs h) (All-head (Local A P) f fs w)) (locals_up P q fs (All-tail (IsFraction A) f fs h) (All-tail (Local A P) f fs w))
 
-  has_independent_up : (P : List (List Term)) (q : ArePolys A P) (r : ℕ) → HasIndependent A P r → Fr.LocalIndependent (Q A c.curve) (d A c.curve) A.prime (scalar A c) (lift A.prime A.variables P q) r
+  pub has_independent_up : (P : List (List Term)) (q : ArePolys A P) (r : ℕ) → HasIndependent A P r → Fr.LocalIndependent (Q A c.curve) (d A c.curve) A.prime (scalar A c) (lift A.prime A.variables P q) r
   has_independent_up P q r w = (frac_all A c w.fractions w.are_fractions, length-frac_all w.fractions w.are_fractions ∙ w.as_many, locals_up P q w.fractions w.are_fractions w.local, independent_up w.fractions w.are_fractions w.independent)
 
   module _ (P : List (List Term)) (point : IsPoint A P) (K : ℕ) (L : List (List Term)) (l : ArePolys A L) (w : IsLocalRing A P K L) where

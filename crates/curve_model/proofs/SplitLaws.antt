@@ -49,7 +49,7 @@ module _ (A : CurveData) (c : IsFinite A) where
   abbrev Sum : List Frac → Frac
   Sum xs = Sums.sum (Fr.fraction_ops (Q A c.curve) (d A c.curve)) (λ f. f) xs
 
-  total_poly : (fs : List Fraction) → All (IsFraction A) fs → IsFraction A (total A fs)
+  pub total_poly : (fs : List Fraction) → All (IsFraction A) fs → IsFraction A (total A fs)
   total_poly [] h = (Ring A c.curve).𝟘.is_poly
   total_poly (f ∷ fs) h = sum_poly A c f (total A fs) (All-head (IsFraction A) f fs h) (total_poly fs (All-tail (IsFraction A) f fs h))
 
