@@ -7,10 +7,10 @@ use Rattle.comm_ring.specs.Residues.{residue_ops}
 use Rattle.comm_ring.specs.Modules.{combination, module_through, Independent, IsBasis}
 use Rattle.comm_ring.proofs.Fields.{residue_field}
 use Rattle.comm_ring.proofs.Dimension.{dimension_of_basis}
-use Rattle.closure_laws.specs.Fractions as Fr
-use Rattle.closure_laws.proofs.Settings.{EachN, comb_of}
-use Rattle.closure_laws.proofs.Independence as Independence
-use Rattle.closure_laws.proofs.Premises.{combination_is}
+use Rattle.fraction_laws.specs.Fractions as Fr
+use Rattle.fraction_laws.proofs.Settings.{EachN, comb_of}
+use Rattle.fraction_laws.proofs.Independence as Independence
+use Rattle.fraction_laws.proofs.Premises.{combination_is}
 use Rattle.polys.specs.declared.term.Term.{Term}
 use Rattle.polys.specs.Curve.{CurveData}
 use Rattle.curve_model.specs.Fraction.{Fraction, IsFraction, InA, multiple_of}
@@ -25,7 +25,7 @@ use Rattle.curve_model.specs.Enlarging.{IsLocalRing, difference_of, IsBasisModul
 use Rattle.curve_model.proofs.Members.{lift}
 use Rattle.curve_model.proofs.Base.{Q, Curve, d}
 use Rattle.curve_model.proofs.Locals.{local_up}
-use Rattle.curve_model.proofs.Scalars.{scalar, laws}
+use Rattle.curve_model.proofs.Scalars.{scalar, point_laws}
 use Rattle.curve_model.proofs.StatedLaws.{frac, sum_poly, sum-frac}
 use Rattle.curve_model.proofs.SplitLaws.{Frac, unfrac, frac_all, in_up, in_down}
 use Rattle.curve_model.proofs.DeltaLaws.{scal, multiple_poly, combination_poly, combination-frac, curve_map}
@@ -121,7 +121,7 @@ module _ (A : CurveData) (c : IsFinite A) where
       counts full =
           let D = dimension_of_basis (Independence.K (Curve A c.curve) (d A c.curve) (regular_curve A c.curve) A.prime c.curve.prime (scalar A c) (curve_map A c)) (residue_field A.prime c.curve.prime)
           (Independence.FractionSpace (Curve A c.curve) (d A c.curve) (regular_curve A c.curve) A.prime c.curve.prime (scalar A c) (curve_map A c)) Up xs basis_up in
-          let delta = (laws A c).counts (P' A c P point K L l w) (point' A c P point K L l w) K (L' A c P point K L l w) (local_ring A c P point K L l w) (full_up A c K L l P point.reduced.polys full) (length xs) D in
+          let delta = (point_laws A c).counts (P' A c P point K L l w) (point' A c P point K L l w) K (L' A c P point K L l w) (local_ring A c P point K L l w) (full_up A c K L l P point.reduced.polys full) (length xs) D in
           record {
             reached = members us b.fractions b.members b.independent;
             no_more = λ m. delta.1 (subst (λ r. Fr.LocalIndependent (Q A c.curve) (d A c.curve) A.prime (scalar A c) (P' A c P point K L l w) (suc r)) (sym (length-frac_all us b.fractions)) (has_independent_up P point.reduced.polys (suc (length us)) m));

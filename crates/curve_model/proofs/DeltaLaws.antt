@@ -9,9 +9,9 @@ use Rattle.comm_ring.proofs.Fields.{positive_of_prime}
 use Rattle.comm_ring.specs.Residues.{residue_ops}
 use Rattle.comm_ring.specs.Modules.{combine, combination, module_through, Independent}
 use Rattle.comm_ring.proofs.Quotients.{origin_modulo}
-use Rattle.closure_laws.specs.Fractions as Fr
-use Rattle.closure_laws.proofs.Independence as Independence
-use Rattle.closure_laws.proofs.CurveLaws as CurveLaws
+use Rattle.fraction_laws.specs.Fractions as Fr
+use Rattle.fraction_laws.proofs.Independence as Independence
+use Rattle.fraction_laws.proofs.CurveLaws as CurveLaws
 use Rattle.polys.specs.declared.term.Term.{Term}
 use Rattle.polys.specs.Terms.{multiple}
 use Rattle.polys.specs.Curve.{CurveData}

@@ -15,7 +15,7 @@ use Rattle.curve_model.specs.Laws.{IsFinite, ArePolys}
 use Rattle.curve_model.specs.OneDelta.{DeltaIsUnique, FewerAreIndependent}
 use Rattle.curve_model.proofs.Members.{lift}
 use Rattle.curve_model.proofs.Base.{high}
-use Rattle.curve_model.proofs.Scalars.{laws}
+use Rattle.curve_model.proofs.Scalars.{point_laws}
 use Rattle.curve_model.proofs.LocalRingLaws.{local_ring_law}
 use Rattle.curve_model.proofs.SplitLaws.{none_law}
 use Rattle.curve_model.proofs.StatedLaws.{sum_poly}
@@ -78,6 +78,6 @@ fewer_law A c P r k w = fewer_by A c P r k w
 
 pub unique_delta_law : DeltaIsUnique
 unique_delta_law A c P q r s h g =
-    (laws A c).unique (lift A.prime A.variables P q) r s
+    (point_laws A c).unique (lift A.prime A.variables P q) r s
     (has_independent_up A c P q r h.reached, λ b. h.no_more (has_independent A c P q (suc r) b))
     (has_independent_up A c P q s g.reached, λ b. g.no_more (has_independent A c P q (suc s) b))

@@ -26,7 +26,7 @@ use Rattle.curve_model.proofs.StatedLaws.{frac, sum_poly, product_poly, sum-frac
 use Rattle.curve_model.proofs.DeltaLaws.{multiple_poly}
 use Rattle.curve_model.proofs.DescentLaws.{Frs}
 use Rattle.curve_model.proofs.ChainLaws.{whole_ring}
-use Rattle.closure_laws.proofs.FractionRing.{cancel_two}
+use Rattle.fraction_laws.proofs.FractionRing.{cancel_two}
 
 module _ (C : CommRing) where
   open C use {ops, carrier, ◌≈◌, ◌⊕◌, ◌⊗◌, neg, 𝟘, 𝟙}

@@ -12,10 +12,10 @@ use Rattle.comm_ring.proofs.Quote.{ring, quote}
 use Rattle.comm_ring.proofs.Fields.{residue_field}
 use Rattle.comm_ring.proofs.Modules as Modules
 use Rattle.comm_ring.proofs.Exchange as Exchange
-use Rattle.closure_laws.specs.Fractions as Fr
-use Rattle.closure_laws.proofs.Settings.{IsRing, IsModule}
-use Rattle.closure_laws.proofs.Basic.{gen_resp, gen_module, gen_one}
-use Rattle.closure_laws.proofs.Independence as Independence
+use Rattle.fraction_laws.specs.Fractions as Fr
+use Rattle.fraction_laws.proofs.Settings.{IsRing, IsModule}
+use Rattle.fraction_laws.proofs.Basic.{gen_resp, gen_module, gen_one}
+use Rattle.fraction_laws.proofs.Independence as Independence
 use Rattle.polys.specs.declared.term.Term.{Term}
 use Rattle.polys.specs.Terms.{IsPoly, one}
 use Rattle.polys.specs.Poly.{Polynomial}
