@@ -12,7 +12,7 @@ use Rattle.comm_ring.proofs.Ideals as Ideals
 use Rattle.comm_ring.proofs.Ideals.{quotient_ring}
 use Rattle.comm_ring.proofs.Modules as Modules
 use Rattle.comm_ring.proofs.Residues.{residues}
-use Rattle.comm_ring.proofs.Fields.{positive_of_prime}
+use Rattle.prime_field.proofs.Table.{positive_of_prime}
 use Rattle.closure_laws.specs.Fractions.{Regular}
 use Rattle.closure_laws.specs.Points.{Point, SameIdeal, DistinctPoints, HasAllPoints}
 use Rattle.closure_laws.specs.Laws.{FractionLaws}

@@ -1,14 +1,14 @@
 -- Modulo a prime every number but 0 is invertible: nothing is left modulo d.
 use Rattle.std.proofs.Common.{◌≡◌, ◌≢◌, ◌⊎◌, inl, inr, refl, sym, ◌∙◌, ℕ, ◌<◌, ◌*◌, ◌%◌, List, [], ◌∷◌, length, arith, mod-eq_of_lt}
 use Rattle.prime_field.specs.Primes.{IsPrime}
-use Rattle.prime_field.proofs.Table.{characteristics-are_prime}
+use Rattle.prime_field.proofs.Table.{characteristics-are_prime, positive_of_prime}
 use Rattle.std.proofs.lemmas.List.Elements.{All-head, All-nil}
 use Rattle.comm_ring.specs.Ring.{CommRing, IsRingMap}
 use Rattle.comm_ring.specs.Residues.{residue_ops}
 use Rattle.comm_ring.specs.Modules.{Dimension}
 use Rattle.comm_ring.specs.Ideals.{InIdeal}
 use Rattle.comm_ring.proofs.Residues.{residues}
-use Rattle.comm_ring.proofs.Fields.{positive_of_prime, residue_field}
+use Rattle.comm_ring.proofs.Fields.{residue_field}
 use Rattle.comm_ring.proofs.Derived as Derived
 use Rattle.comm_ring.proofs.Ideals as Ideals
 use Rattle.closure_laws.specs.Fractions.{Regular}
