@@ -4,9 +4,9 @@ use Rattle.prime_field.specs.Primes.{IsPrime}
 use Rattle.comm_ring.specs.Ring.{Ops, CommRing, pow}
 use Rattle.comm_ring.specs.Ideals as Ideals
 use Rattle.comm_ring.proofs.Ideals as IdealLaws
-use Rattle.closure_laws.specs.Fractions as Fr
-use Rattle.closure_laws.specs.Curves.{curve_ops}
-use Rattle.closure_laws.proofs.CurveLaws as CurveLaws
+use Rattle.fraction_laws.specs.Fractions as Fr
+use Rattle.fraction_laws.specs.Curves.{curve_ops}
+use Rattle.fraction_laws.proofs.CurveLaws as CurveLaws
 use Rattle.polys.specs.declared.term.Term.{Term}
 use Rattle.polys.specs.Terms.{IsPoly, sub, mul, power}
 use Rattle.polys.specs.Ideal.{InIdeal}

@@ -32,11 +32,11 @@ use Rattle.curve_model.proofs.EnlargingLaws.{enlargement_law}
 use Rattle.curve_model.proofs.DeltaLaws.{multiple_poly}
 
 module _ (A : CurveData) (c : IsFinite A) where
-  one_poly : IsPoly A.prime A.variables one
+  pub one_poly : IsPoly A.prime A.variables one
   one_poly = (Ring A c.curve).𝟙.is_poly
 
   -- two properties that agree are rings together
-  transfer : (V W : Fraction → Type 0) → ((f : Fraction) → IsFraction A f → V f ↔ W f) → IsFractionRing A V → IsFractionRing A W
+  pub transfer : (V W : Fraction → Type 0) → ((f : Fraction) → IsFraction A f → V f ↔ W f) → IsFractionRing A V → IsFractionRing A W
   transfer V W e r = record {
     respects = λ f g hf hg s w. (e g hg).0 (r.respects f g hf hg s ((e f hf).1 w));
     one = (e (over one 0) one_poly).0 r.one;
@@ -46,7 +46,7 @@ module _ (A : CurveData) (c : IsFinite A) where
   }
 
   -- each b of M over d^K is in the module of K and M
-  itself : (K : ℕ) (M : List (List Term)) (m : ArePolys A M) (b : List Term) → Contains M b → InModule A K M (over b K)
+  pub itself : (K : ℕ) (M : List (List Term)) (m : ArePolys A M) (b : List Term) → Contains M b → InModule A K M (over b K)
   itself K M m b k =
       let h = All-contains (IsPoly A.prime A.variables) M b m k in
       let x = member A c.curve b h in (
@@ -58,7 +58,7 @@ module _ (A : CurveData) (c : IsFinite A) where
       )
 
   -- the ideal of 1 holds every polynomial
-  in_one : (b : List Term) → IsPoly A.prime A.variables b → InIdeal A.prime A.variables (one ∷ []) b
+  pub in_one : (b : List Term) → IsPoly A.prime A.variables b → InIdeal A.prime A.variables (one ∷ []) b
   unfolding lift
   in_one b h =
       let o : ArePolys A (one ∷ []) = All-cons (IsPoly A.prime A.variables) one [] one_poly (All-nil (IsPoly A.prime A.variables)) in
@@ -69,10 +69,10 @@ module _ (A : CurveData) (c : IsFinite A) where
       (i.resp ((Ring A c.curve).◌⊗◌ x u) x ((Ring A c.curve).mul_one x)
       (i.scale x u (All-head (Ideals.InIdeal (Ring A c.curve).ops (lift A.prime A.variables (one ∷ []) o)) u [] (IdealLaws.generators_in (Ring A c.curve) (lift A.prime A.variables (one ∷ []) o)))))
 
-  whole : (f : Fraction) → IsFraction A f → InA A f ↔ InModule A 0 (one ∷ []) f
+  pub whole : (f : Fraction) → IsFraction A f → InA A f ↔ InModule A 0 (one ∷ []) f
   whole f h = ((λ w. (w.0, in_one w.0 w.1, w.2)), λ w. (w.0, in_poly A.prime A.variables (one ∷ []) w.0 (positive A.prime (high A c.curve)) (All-cons (IsPoly A.prime A.variables) one [] one_poly (All-nil (IsPoly A.prime A.variables))) w.1, w.2))
 
-  whole_ring : IsFractionRing A (InA A)
+  pub whole_ring : IsFractionRing A (InA A)
   whole_ring = transfer (LocalAt A []) (InA A) (λ f h. none_law A c f h) (local_ring_law A c [] (All-nil (ArePolys A)))
 
   one_in : InA A (over one 0)

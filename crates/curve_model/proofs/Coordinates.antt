@@ -16,7 +16,7 @@ use Rattle.comm_ring.proofs.Ideals as IdealLaws
 use Rattle.comm_ring.proofs.Modules.{Module, through}
 use Rattle.comm_ring.proofs.Quotients.{quotient}
 use Rattle.comm_ring.proofs.Dimension as Dimensions
-use Rattle.closure_laws.proofs.CurveLaws as CurveLaws
+use Rattle.fraction_laws.proofs.CurveLaws as CurveLaws
 use Rattle.polys.specs.declared.term.Term.{Term}
 use Rattle.polys.specs.Terms.{IsPoly, keep, add, sub, mul}
 use Rattle.polys.specs.Ideal.{InIdeal, number_combination, HasDim}

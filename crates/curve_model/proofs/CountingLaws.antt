@@ -7,10 +7,10 @@ use Rattle.comm_ring.specs.Residues.{residue_ops}
 use Rattle.comm_ring.specs.Modules.{combination, module_through, Independent, IsBasis}
 use Rattle.comm_ring.proofs.Fields.{residue_field}
 use Rattle.comm_ring.proofs.Dimension.{dimension_of_basis}
-use Rattle.closure_laws.specs.Fractions as Fr
-use Rattle.closure_laws.proofs.Settings.{EachN, comb_of}
-use Rattle.closure_laws.proofs.Independence as Independence
-use Rattle.closure_laws.proofs.Premises.{combination_is}
+use Rattle.fraction_laws.specs.Fractions as Fr
+use Rattle.fraction_laws.proofs.Settings.{EachN, comb_of}
+use Rattle.fraction_laws.proofs.Independence as Independence
+use Rattle.fraction_laws.proofs.Premises.{combination_is}
 use Rattle.polys.specs.declared.term.Term.{Term}
 use Rattle.polys.specs.Curve.{CurveData}
 use Rattle.curve_model.specs.Fraction.{Fraction, IsFraction, InA, multiple_of}
@@ -25,7 +25,7 @@ use Rattle.curve_model.specs.Enlarging.{IsLocalRing, difference_of, IsBasisModul
 use Rattle.curve_model.proofs.Members.{lift}
 use Rattle.curve_model.proofs.Base.{Q, Curve, d}
 use Rattle.curve_model.proofs.Locals.{local_up}
-use Rattle.curve_model.proofs.Scalars.{scalar, laws}
+use Rattle.curve_model.proofs.Scalars.{scalar, point_laws}
 use Rattle.curve_model.proofs.StatedLaws.{frac, sum_poly, sum-frac}
 use Rattle.curve_model.proofs.SplitLaws.{Frac, unfrac, frac_all, in_up, in_down}
 use Rattle.curve_model.proofs.DeltaLaws.{scal, multiple_poly, combination_poly, combination-frac, curve_map}
@@ -42,12 +42,12 @@ zeros [] h = tt
 zeros (c ∷ cs) h = (All-head (λ e. e ≡ 0) c cs h, zeros cs (All-tail (λ e. e ≡ 0) c cs h))
 
 module _ (A : CurveData) (c : IsFinite A) where
-  unfrac_all : (fs : List Fraction) (h : All (IsFraction A) fs) → map (unfrac A c) (frac_all A c fs h) ≡ fs
+  pub unfrac_all : (fs : List Fraction) (h : All (IsFraction A) fs) → map (unfrac A c) (frac_all A c fs h) ≡ fs
   unfolding frac_all
   unfrac_all [] h = refl
   unfrac_all (f ∷ fs) h = ap (λ l. f ∷ l) (unfrac_all fs (All-tail (IsFraction A) f fs h))
 
-  length-frac_all : (fs : List Fraction) (h : All (IsFraction A) fs) → length (frac_all A c fs h) ≡ length fs
+  pub length-frac_all : (fs : List Fraction) (h : All (IsFraction A) fs) → length (frac_all A c fs h) ≡ length fs
   length-frac_all fs h = sym (length-map (frac_all A c fs h) (unfrac A c)) ∙ ap length (unfrac_all fs h)
 
   low_up : (fs : List Fraction) (h : All (IsFraction A) fs) → AreIndependent A fs → (cs : List ℕ) → length cs ≡ length (frac_all A c fs h) → EachN (λ e. e < A.prime) cs
@@ -57,7 +57,7 @@ module _ (A : CurveData) (c : IsFinite A) where
       (in_down A c (Delta.combination A cs (map (unfrac A c) (frac_all A c fs h))) (combination_poly A c cs (frac_all A c fs h))
       (subst (Fr.InA (Q A c.curve) (d A c.curve)) (combination_is (Fr.fraction_ops (Q A c.curve) (d A c.curve)) (scal A c) cs (frac_all A c fs h) ∙ combination-frac A c cs (frac_all A c fs h)) w))))
 
-  independent_up : (fs : List Fraction) (h : All (IsFraction A) fs) → AreIndependent A fs → Independent (residue_ops A.prime) (Fr.fraction_space (Q A c.curve) (d A c.curve) A.prime (scalar A c)) (frac_all A c fs h)
+  pub independent_up : (fs : List Fraction) (h : All (IsFraction A) fs) → AreIndependent A fs → Independent (residue_ops A.prime) (Fr.fraction_space (Q A c.curve) (d A c.curve) A.prime (scalar A c)) (frac_all A c fs h)
   independent_up fs h i = Independence.independent_out (Curve A c.curve) (d A c.curve) (regular_curve A c.curve) A.prime c.curve.prime (scalar A c) (curve_map A c) (frac_all A c fs h) (low_up fs h i)
 
   locals_up : (P : List (List Term)) (q : ArePolys A P) (fs : List Fraction) (h : All (IsFraction A) fs) → All (Local A P) fs → All (λ x. Fr.LocalTo (Q A c.curve) (d A c.curve) (Contains (lift A.prime A.variables P q)) x.0 x.1) (frac_all A c fs h)
@@ -66,7 +66,7 @@ module _ (A : CurveData) (c : IsFinite A) where
   locals_up P q (f ∷ fs) h w = All-cons (λ x. Fr.LocalTo (Q A c.curve) (d A c.curve) (Contains (lift A.prime A.variables P q)) x.0 x.1) (frac A c f (All-head (IsFraction A) f fs h)) (frac_all A c fs (All-tail (IsFraction A) f fs h))
       (local_up A c.curve P q f (All-head (IsFraction A) f fs h) (All-head (Local A P) f fs w)) (locals_up P q fs (All-tail (IsFraction A) f fs h) (All-tail (Local A P) f fs w))
 
-  has_independent_up : (P : List (List Term)) (q : ArePolys A P) (r : ℕ) → HasIndependent A P r → Fr.LocalIndependent (Q A c.curve) (d A c.curve) A.prime (scalar A c) (lift A.prime A.variables P q) r
+  pub has_independent_up : (P : List (List Term)) (q : ArePolys A P) (r : ℕ) → HasIndependent A P r → Fr.LocalIndependent (Q A c.curve) (d A c.curve) A.prime (scalar A c) (lift A.prime A.variables P q) r
   has_independent_up P q r w = (frac_all A c w.fractions w.are_fractions, length-frac_all w.fractions w.are_fractions ∙ w.as_many, locals_up P q w.fractions w.are_fractions w.local, independent_up w.fractions w.are_fractions w.independent)
 
   module _ (P : List (List Term)) (point : IsPoint A P) (K : ℕ) (L : List (List Term)) (l : ArePolys A L) (w : IsLocalRing A P K L) where
@@ -121,7 +121,7 @@ module _ (A : CurveData) (c : IsFinite A) where
       counts full =
           let D = dimension_of_basis (Independence.K (Curve A c.curve) (d A c.curve) (regular_curve A c.curve) A.prime c.curve.prime (scalar A c) (curve_map A c)) (residue_field A.prime c.curve.prime)
           (Independence.FractionSpace (Curve A c.curve) (d A c.curve) (regular_curve A c.curve) A.prime c.curve.prime (scalar A c) (curve_map A c)) Up xs basis_up in
-          let delta = (laws A c).counts (P' A c P point K L l w) (point' A c P point K L l w) K (L' A c P point K L l w) (local_ring A c P point K L l w) (full_up A c K L l P point.reduced.polys full) (length xs) D in
+          let delta = (point_laws A c).counts (P' A c P point K L l w) (point' A c P point K L l w) K (L' A c P point K L l w) (local_ring A c P point K L l w) (full_up A c K L l P point.reduced.polys full) (length xs) D in
           record {
             reached = members us b.fractions b.members b.independent;
             no_more = λ m. delta.1 (subst (λ r. Fr.LocalIndependent (Q A c.curve) (d A c.curve) A.prime (scalar A c) (P' A c P point K L l w) (suc r)) (sym (length-frac_all us b.fractions)) (has_independent_up P point.reduced.polys (suc (length us)) m));

@@ -9,9 +9,9 @@ use Rattle.prime_field.proofs.Table.{positive_of_prime}
 use Rattle.comm_ring.specs.Residues.{residue_ops}
 use Rattle.comm_ring.specs.Modules.{combine, combination, module_through, Independent}
 use Rattle.comm_ring.proofs.Quotients.{origin_modulo}
-use Rattle.closure_laws.specs.Fractions as Fr
-use Rattle.closure_laws.proofs.Independence as Independence
-use Rattle.closure_laws.proofs.CurveLaws as CurveLaws
+use Rattle.fraction_laws.specs.Fractions as Fr
+use Rattle.fraction_laws.proofs.Independence as Independence
+use Rattle.fraction_laws.proofs.CurveLaws as CurveLaws
 use Rattle.polys.specs.declared.term.Term.{Term}
 use Rattle.polys.specs.Terms.{multiple}
 use Rattle.polys.specs.Curve.{CurveData}
@@ -85,7 +85,7 @@ module _ (A : CurveData) (c : IsFinite A) where
       (local_down A c.curve P a (unfrac A c x) x.0.is_poly (All-head (λ y. Fr.LocalTo (Q A c.curve) (d A c.curve) (Contains (lift A.prime A.variables P a)) y.0 y.1) x xs h))
       (locals_down P a xs (All-tail (λ y. Fr.LocalTo (Q A c.curve) (d A c.curve) (Contains (lift A.prime A.variables P a)) y.0 y.1) x xs h))
 
-  has_independent : (P : List (List Term)) (a : ArePolys A P) (r : ℕ) → Fr.LocalIndependent (Q A c.curve) (d A c.curve) A.prime (scalar A c) (lift A.prime A.variables P a) r → HasIndependent A P r
+  pub has_independent : (P : List (List Term)) (a : ArePolys A P) (r : ℕ) → Fr.LocalIndependent (Q A c.curve) (d A c.curve) A.prime (scalar A c) (lift A.prime A.variables P a) r → HasIndependent A P r
   has_independent P a r w = record {
     fractions = map (unfrac A c) w.0;
     as_many = length-map w.0 (unfrac A c) ∙ w.1;

@@ -7,11 +7,12 @@ use Rattle.comm_ring.specs.Modules.{combination, own_module}
 use Rattle.comm_ring.specs.Ideals as Ideals
 use Rattle.comm_ring.proofs.Modules as Modules
 use Rattle.comm_ring.proofs.Ideals as IdealLaws
-use Rattle.closure_laws.specs.Fractions as Fr
-use Rattle.closure_laws.specs.Laws as FrLaws
-use Rattle.closure_laws.proofs.CurveLaws as CurveLaws
-use Rattle.closure_laws.proofs.FractionRing.{fractions}
-use Rattle.closure_laws.proofs.FractionLaws.{pow_frac}
+use Rattle.fraction_laws.specs.Fractions as Fr
+use Rattle.point_laws.specs.Laws as PtLaws
+use Rattle.fraction_laws.proofs.CurveLaws as CurveLaws
+use Rattle.point_laws.proofs.CurvePoints as CurvePoints
+use Rattle.fraction_laws.proofs.FractionRing.{fractions}
+use Rattle.fraction_laws.proofs.FractionLaws.{pow_frac}
 use Rattle.polys.specs.declared.term.Term.{Term}
 use Rattle.polys.specs.Terms.{IsPoly, power}
 use Rattle.polys.specs.Curve.{CurveData}
@@ -27,7 +28,7 @@ use Rattle.curve_model.proofs.Chains.{chain, flip, add_both, mul_both}
 use Rattle.curve_model.proofs.Base.{high, Ring, Poly, I, d, Q, Curve, member, pow-curve, equal_up, equal_down}
 use Rattle.curve_model.proofs.Locals.{local_up}
 use Rattle.curve_model.proofs.ManyPoints.{point_up}
-use Rattle.curve_model.proofs.Scalars.{laws}
+use Rattle.curve_model.proofs.Scalars.{point_laws}
 use Rattle.curve_model.proofs.StatedLaws.{frac, sum_poly, product_poly, sum-frac, product-frac}
 use Rattle.curve_model.proofs.SplitLaws.{Frac, unfrac, in_down}
 use Rattle.curve_model.proofs.Regulars.{regular_curve}
@@ -45,7 +46,7 @@ module _ (A : CurveData) (c : IsFinite A) where
     B = InModule A K L
 
     abbrev pub B' : Frac A c → Type 0
-    B' = FrLaws.ModuleOf (Q A c.curve) (d A c.curve) K L'
+    B' = PtLaws.ModuleOf (Q A c.curve) (d A c.curve) K L'
 
     pub module_up : (x : Frac A c) → B (unfrac A c x) → B' x
     module_up x w =
@@ -152,6 +153,6 @@ pub descent_law : DescentLaw
 descent_law A c P point K L l r holds full f h w =
     let a = point.reduced.polys in
     module_down A c K L l (frac A c f h)
-    ((laws A c).descent (lift A.prime A.variables P a) (CurveLaws.point_of_curve (Ring A c.curve) (I A c.curve) (d A c.curve) (lift A.prime A.variables P a) (point_up A c P a point)) K (lift A.prime A.variables L l)
+    ((point_laws A c).descent (lift A.prime A.variables P a) (CurvePoints.point_of_curve (Ring A c.curve) (I A c.curve) (d A c.curve) (lift A.prime A.variables P a) (point_up A c P a point)) K (lift A.prime A.variables L l)
     (ring_up A c K L l r) (λ x i. module_up A c K L l x (holds (unfrac A c x) x.0.is_poly (in_down A c (unfrac A c x) x.0.is_poly i))) (full_up A c K L l P a full)
     (member A c.curve f.numerator h) f.exponent (local_up A c.curve P a f h w))

@@ -2,10 +2,10 @@
 use Rattle.std.proofs.Common.{◌↔◌, ℕ, suc, List, [], ◌∷◌, All, sym, subst}
 use Rattle.std.specs.List.{Contains}
 use Rattle.std.proofs.lemmas.List.Elements.{All-nil, All-cons, All-head, All-tail}
-use Rattle.closure_laws.specs.Fractions as Fr
-use Rattle.closure_laws.specs.Laws as FrLaws
-use Rattle.closure_laws.specs.Points as Pt
-use Rattle.closure_laws.proofs.CurveLaws as CurveLaws
+use Rattle.fraction_laws.specs.Fractions as Fr
+use Rattle.point_laws.specs.Laws as PtLaws
+use Rattle.point_laws.specs.Points as Pt
+use Rattle.point_laws.proofs.CurvePoints as CurvePoints
 use Rattle.polys.specs.declared.term.Term.{Term}
 use Rattle.polys.specs.Terms.{IsPoly}
 use Rattle.polys.specs.Curve.{CurveData}
@@ -20,7 +20,7 @@ use Rattle.curve_model.proofs.Members.{lift}
 use Rattle.curve_model.proofs.Base.{Ring, Poly, I, d, Q, member, equal_up}
 use Rattle.curve_model.proofs.Locals.{local_up, local_down}
 use Rattle.curve_model.proofs.ManyPoints.{point_up}
-use Rattle.curve_model.proofs.Scalars.{laws}
+use Rattle.curve_model.proofs.Scalars.{point_laws}
 use Rattle.curve_model.proofs.StatedLaws.{frac, sum_poly, product_poly, sum-frac, product-frac, equals_down}
 use Rattle.curve_model.proofs.SplitLaws.{Frac, unfrac, in_down}
 use Rattle.curve_model.proofs.DescentLaws.{module_up, module_down, ring_up, radical_up, radical_down, full_up}
@@ -39,10 +39,10 @@ module _ (A : CurveData) (c : IsFinite A) (P : List (List Term)) (point : IsPoin
   B = InModule A K L
 
   abbrev pub B' : Frac A c → Type 0
-  B' = FrLaws.ModuleOf (Q A c.curve) (d A c.curve) K L'
+  B' = PtLaws.ModuleOf (Q A c.curve) (d A c.curve) K L'
 
   pub point' : Pt.Point (Q A c.curve) (d A c.curve) P'
-  point' = CurveLaws.point_of_curve (Ring A c.curve) (I A c.curve) (d A c.curve) P' (point_up A c P point.reduced.polys point)
+  point' = CurvePoints.point_of_curve (Ring A c.curve) (I A c.curve) (d A c.curve) P' (point_up A c P point.reduced.polys point)
 
   locals : (fs : List (List Term)) (b : ArePolys A fs) → All (λ f. Local A P (over f K)) fs → All (λ f. Fr.LocalTo (Q A c.curve) (d A c.curve) (Contains P') f K) (lift A.prime A.variables fs b)
   unfolding lift
@@ -51,7 +51,7 @@ module _ (A : CurveData) (c : IsFinite A) (P : List (List Term)) (point : IsPoin
       (local_up A c.curve P point.reduced.polys (over f K) (All-head (IsPoly A.prime A.variables) f fs b) (All-head (λ g. Local A P (over g K)) f fs h))
       (locals fs (All-tail (IsPoly A.prime A.variables) f fs b) (All-tail (λ g. Local A P (over g K)) f fs h))
 
-  pub local_ring : FrLaws.IsLocalRing (Q A c.curve) (d A c.curve) P' K L'
+  pub local_ring : PtLaws.IsLocalRing (Q A c.curve) (d A c.curve) P' K L'
   local_ring = record {
     ring = ring_up A c K L l w.ring;
     holds = λ x i. module_up A c K L l x (w.holds (unfrac A c x) x.0.is_poly (in_down A c (unfrac A c x) x.0.is_poly i));
@@ -75,7 +75,7 @@ module _ (A : CurveData) (c : IsFinite A) (P : List (List Term)) (point : IsPoin
       (subst (Fr.RadicalAt (Q A c.curve) (d A c.curve) P' B') (product-frac A c (unfrac A c x) f x.0.is_poly hf) (keep (frac A c f hf) (radical_up A c K L l P point.reduced.polys f hf r)))
 
   law : Fr.IsFractionRing (Q A c.curve) (d A c.curve) W' × ((x : Frac A c) → B' x → W' x) × ((x : Frac A c) → W' x → ((b : Poly A c.curve) × Fr.Equal (Q A c.curve) (d A c.curve) x.0 x.1 b (suc K)) × Fr.LocalTo (Q A c.curve) (d A c.curve) (Contains P') x.0 x.1)
-  law = (laws A c).enlargement P' point' K L' local_ring
+  law = (point_laws A c).enlargement P' point' K L' local_ring
 
   pub enlarged : Enlarges A P K B W
   enlarged = record {
@@ -93,7 +93,7 @@ module _ (A : CurveData) (c : IsFinite A) (P : List (List Term)) (point : IsPoin
 
   pub full_local : IsFull A P B → (f : Fraction) → IsFraction A f → B f ↔ Local A P f
   full_local full f hf =
-      let e = (laws A c).full P' point' K L' local_ring (full_up A c K L l P point.reduced.polys full) (member A c.curve f.numerator hf) f.exponent in (
+      let e = (point_laws A c).full P' point' K L' local_ring (full_up A c K L l P point.reduced.polys full) (member A c.curve f.numerator hf) f.exponent in (
         (λ h. local_down A c.curve P point.reduced.polys f hf (e.0 (module_up A c K L l (frac A c f hf) h))),
         λ h. module_down A c K L l (frac A c f hf) (e.1 (local_up A c.curve P point.reduced.polys f hf h)),
       )

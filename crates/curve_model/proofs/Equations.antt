@@ -6,7 +6,7 @@ use Rattle.comm_ring.specs.Ideals as Ideals
 use Rattle.comm_ring.proofs.Derived as Derived
 use Rattle.comm_ring.proofs.Ideals as IdealLaws
 use Rattle.comm_ring.proofs.Quote.{ring, quote}
-use Rattle.closure_laws.specs.Fractions.{monic, IntegralAt}
+use Rattle.fraction_laws.specs.Fractions.{monic, IntegralAt}
 use Rattle.polys.specs.Terms.{add, mul, power}
 use Rattle.polys.specs.Ideal.{InIdeal}
 use Rattle.polys.specs.Curve.{CurveData}

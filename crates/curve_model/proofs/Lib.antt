@@ -23,3 +23,9 @@ pub mod CountingLaws
 pub mod LocalRingLaws
 pub mod ClosingLaws
 pub mod ChainLaws
+pub mod OneExponent
+pub mod StepLaws
+pub mod FewerLaws
+pub mod GeneratorLaws
+pub mod PointSetLaws
+pub mod CuspLocal

@@ -1,7 +1,7 @@
 -- The fractions that are local at a list of points are a ring.
 use Rattle.std.proofs.Common.{List, All, subst}
-use Rattle.closure_laws.specs.Fractions as Fr
-use Rattle.closure_laws.specs.Points as Pt
+use Rattle.fraction_laws.specs.Fractions as Fr
+use Rattle.point_laws.specs.Points as Pt
 use Rattle.polys.specs.declared.term.Term.{Term}
 use Rattle.polys.specs.Curve.{CurveData}
 use Rattle.curve_model.specs.Fraction.{sum_of, product_of}
@@ -9,7 +9,7 @@ use Rattle.curve_model.specs.Local.{LocalAt}
 use Rattle.curve_model.specs.Laws.{IsFinite, ArePolys}
 use Rattle.curve_model.specs.Rings.{IsFractionRing, LocalAtIsRing}
 use Rattle.curve_model.proofs.Base.{d, Q, equal_up}
-use Rattle.curve_model.proofs.Scalars.{laws}
+use Rattle.curve_model.proofs.Scalars.{point_laws}
 use Rattle.curve_model.proofs.StatedLaws.{frac, sum_poly, product_poly, sum-frac, product-frac}
 use Rattle.curve_model.proofs.SplitLaws.{Frac, unfrac}
 use Rattle.curve_model.proofs.ManyPoints.{lift_all, local_at_up, local_at_down}
@@ -25,7 +25,7 @@ module _ (A : CurveData) (c : IsFinite A) (S : List (List (List Term))) (q : All
   minus = (Fr.fraction_ops (Q A c.curve) (d A c.curve)).neg
 
   ring_above : Fr.IsFractionRing (Q A c.curve) (d A c.curve) W
-  ring_above = (laws A c).rings.0 (lift_all A c S q)
+  ring_above = (point_laws A c).rings.0 (lift_all A c S q)
 
   ring : IsFractionRing A (LocalAt A S)
   ring = record {

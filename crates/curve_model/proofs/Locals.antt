@@ -6,7 +6,7 @@ use Rattle.std.proofs.lemmas.List.Elements.{All-nil, All-cons, All-head, All-tai
 use Rattle.comm_ring.specs.Ring.{pow}
 use Rattle.comm_ring.specs.Sums as Sums
 use Rattle.comm_ring.specs.Sums.{joined}
-use Rattle.closure_laws.specs.Fractions.{MultipleOf, LocalTo}
+use Rattle.fraction_laws.specs.Fractions.{MultipleOf, LocalTo}
 use Rattle.polys.specs.declared.term.Term.{Term}
 use Rattle.polys.specs.Terms.{IsPoly, mul, product}
 use Rattle.polys.specs.Ideal.{InIdeal}

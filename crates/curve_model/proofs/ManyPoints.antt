@@ -6,9 +6,9 @@ use Rattle.std.proofs.lemmas.List.Elements.{All-nil, All-cons, All-head, All-tai
 use Rattle.comm_ring.specs.Sums as Sums
 use Rattle.comm_ring.specs.Sums.{joined}
 use Rattle.comm_ring.specs.Ideals as Ideals
-use Rattle.closure_laws.specs.Points as Pt
-use Rattle.closure_laws.specs.Curves.{PointOver}
-use Rattle.closure_laws.proofs.CurveLaws as CurveLaws
+use Rattle.point_laws.specs.Points as Pt
+use Rattle.point_laws.specs.Points.{PointOver}
+use Rattle.point_laws.proofs.CurvePoints as CurvePoints
 use Rattle.polys.specs.declared.term.Term.{Term}
 use Rattle.polys.specs.Terms.{IsPoly, mul, product, one}
 use Rattle.polys.specs.Ideal.{InIdeal}
@@ -161,7 +161,7 @@ module _ (A : CurveData) (c : IsFinite A) where
       go r (suc k) l e = let q = r (k, w.1, omega arith, e, w.4) in (suc q.0, q.1, (let m : q.0 < length (lift_all S (All-tail (ArePolys A) P S a)) = q.2 in omega arith), q.3, q.4)
 
   pub all_points_up : (S : List (List (List Term))) (a : All (ArePolys A) S) → All (IsPoint A) S → HasAllPoints A S → Pt.HasAllPoints (Q A c.curve) (d A c.curve) (lift_all S a)
-  all_points_up S a h f = CurveLaws.all_points_of_curve (Ring A c.curve) (I A c.curve) (d A c.curve) (lift_all S a) (points_up S a h) (λ M w. any_up S a M (f (terms_of M) (maximal_down M w)))
+  all_points_up S a h f = CurvePoints.all_points_of_curve (Ring A c.curve) (I A c.curve) (d A c.curve) (lift_all S a) (points_up S a h) (λ M w. any_up S a M (f (terms_of M) (maximal_down M w)))
 
   differ : (P R : List (List Term)) (a : ArePolys A P) (b : ArePolys A R) → IsPoint A P → IsPoint A R → P ≢ R → ¬ (Pt.SameIdeal (Ring A c.curve).ops (d A c.curve) (lift A.prime A.variables P a) (lift A.prime A.variables R b))
   differ P R a b p r never s = never (unique_law A.prime A.variables P R c.curve.prime p.reduced r.reduced
@@ -188,4 +188,4 @@ module _ (A : CurveData) (c : IsFinite A) where
       (pairs_up S (All-tail (ArePolys A) P S a) (All-tail (IsPoint A) P S h) (all_pairs_rest (λ T R. T ≢ R) P S f))
 
   pub distinct_up : (S : List (List (List Term))) (a : All (ArePolys A) S) → ArePoints A S → Pt.DistinctPoints (Q A c.curve) (d A c.curve) (lift_all S a)
-  distinct_up S a w = CurveLaws.distinct_of_curve (Ring A c.curve) (I A c.curve) (d A c.curve) (lift_all S a) (points_up S a w.points) (pairs_up S a w.points w.distinct)
+  distinct_up S a w = CurvePoints.distinct_of_curve (Ring A c.curve) (I A c.curve) (d A c.curve) (lift_all S a) (points_up S a w.points) (pairs_up S a w.points w.distinct)

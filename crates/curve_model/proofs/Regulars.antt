@@ -1,12 +1,12 @@
 -- Where d is regular, equal fractions are integral together and local together.
 use Rattle.std.proofs.Common.{List}
 use Rattle.comm_ring.specs.Ring.{pow}
-use Rattle.closure_laws.specs.Fractions as Fr
-use Rattle.closure_laws.specs.Curves.{RegularOver}
-use Rattle.closure_laws.proofs.Forms as Forms
-use Rattle.closure_laws.proofs.CurveLaws as CurveLaws
-use Rattle.closure_laws.proofs.WrittenOut.{integral_of_equal, local_of_equal}
-use Rattle.closure_laws.proofs.Translations.{local_in, local_out}
+use Rattle.fraction_laws.specs.Fractions as Fr
+use Rattle.fraction_laws.specs.Curves.{RegularOver}
+use Rattle.fraction_laws.proofs.Forms as Forms
+use Rattle.fraction_laws.proofs.CurveLaws as CurveLaws
+use Rattle.fraction_laws.proofs.WrittenOut.{integral_of_equal, local_of_equal}
+use Rattle.fraction_laws.proofs.Translations.{local_in, local_out}
 use Rattle.polys.specs.declared.term.Term.{Term}
 use Rattle.polys.specs.Curve.{CurveData}
 use Rattle.curve_model.specs.Fraction.{Fraction, IsFraction, AreEqual}

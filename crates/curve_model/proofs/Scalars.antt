@@ -11,9 +11,11 @@ use Rattle.prime_field.proofs.Table.{positive_of_prime}
 use Rattle.comm_ring.proofs.Ideals as IdealLaws
 use Rattle.comm_ring.proofs.Modules.{Module, through}
 use Rattle.comm_ring.proofs.Quotients.{quotient}
-use Rattle.closure_laws.specs.Curves.{space_over}
-use Rattle.closure_laws.specs.Laws.{FractionLaws}
-use Rattle.closure_laws.proofs.CurveLaws as CurveLaws
+use Rattle.fraction_laws.specs.Curves.{space_over}
+use Rattle.fraction_laws.specs.Laws.{FractionLaws}
+use Rattle.fraction_laws.proofs.CurveLaws as CurveLaws
+use Rattle.point_laws.specs.Laws.{PointLaws}
+use Rattle.point_laws.proofs.CurvePoints as CurvePoints
 use Rattle.monomials.specs.Mono.{unit}
 use Rattle.polys.specs.declared.term.Term.{Term}
 use Rattle.polys.specs.Terms.{keep, add, sub, mul, products}
@@ -131,3 +133,7 @@ module _ (A : CurveData) (c : IsFinite A) where
   -- the laws of the ring modulo I
   pub laws : FractionLaws (Q A c.curve) (d A c.curve) A.prime scalar
   laws = CurveLaws.curve_laws (Ring A c.curve) (I A c.curve) (d A c.curve) (regular A c.curve) A.prime c.curve.prime scalar scalar_map c.dimension.0 dimension
+
+  -- and those at points
+  pub point_laws : PointLaws (Q A c.curve) (d A c.curve) A.prime scalar
+  point_laws = CurvePoints.curve_point_laws (Ring A c.curve) (I A c.curve) (d A c.curve) (regular A c.curve) A.prime c.curve.prime scalar scalar_map c.dimension.0 dimension

@@ -5,8 +5,8 @@ use Rattle.std.proofs.lemmas.List.Elements.{All-nil, All-cons, All-head, All-tai
 use Rattle.comm_ring.specs.Ring.{pow}
 use Rattle.comm_ring.specs.Sums as Sums
 use Rattle.comm_ring.specs.Sums.{joined}
-use Rattle.closure_laws.specs.Fractions as Fr
-use Rattle.closure_laws.specs.Points as Pt
+use Rattle.fraction_laws.specs.Fractions as Fr
+use Rattle.point_laws.specs.Points as Pt
 use Rattle.polys.specs.declared.term.Term.{Term}
 use Rattle.polys.specs.Curve.{CurveData}
 use Rattle.curve_model.specs.Fraction.{Fraction, IsFraction, InA, over, sum_of}
@@ -18,7 +18,7 @@ use Rattle.curve_model.proofs.Chains.{power_none, over_none}
 use Rattle.curve_model.proofs.Base.{Ring, d, Q, Curve, member, equal_up, equal_down}
 use Rattle.curve_model.proofs.Equations.{integral_up}
 use Rattle.curve_model.proofs.Locals.{local_up, local_down}
-use Rattle.curve_model.proofs.Scalars.{laws}
+use Rattle.curve_model.proofs.Scalars.{point_laws}
 use Rattle.curve_model.proofs.StatedLaws.{frac, sum_poly, sum-frac, equals_up, equals_down}
 use Rattle.curve_model.proofs.ManyPoints.{lift_all, local_at_up, local_at_down, polys_of_points, all_points_up, distinct_up}
 
@@ -49,7 +49,7 @@ module _ (A : CurveData) (c : IsFinite A) where
   abbrev Sum : List Frac → Frac
   Sum xs = Sums.sum (Fr.fraction_ops (Q A c.curve) (d A c.curve)) (λ f. f) xs
 
-  total_poly : (fs : List Fraction) → All (IsFraction A) fs → IsFraction A (total A fs)
+  pub total_poly : (fs : List Fraction) → All (IsFraction A) fs → IsFraction A (total A fs)
   total_poly [] h = (Ring A c.curve).𝟘.is_poly
   total_poly (f ∷ fs) h = sum_poly A c f (total A fs) (All-head (IsFraction A) f fs h) (total_poly fs (All-tail (IsFraction A) f fs h))
 
@@ -130,25 +130,25 @@ module _ (A : CurveData) (c : IsFinite A) where
 pub all_points_law : AllPointsSuffice
 all_points_law A c S h all f a =
     let q = polys_of_points A c S h in
-    let e = (laws A c).all_points (lift_all A c S q) (all_points_up A c S q h all) (member A c.curve f.numerator a) f.exponent in
+    let e = (point_laws A c).all_points (lift_all A c S q) (all_points_up A c S q h all) (member A c.curve f.numerator a) f.exponent in
     ((λ w. local_at_down A c S q f a (e.0 (integral_up A c.curve f a w))), λ w. w.integral)
 
 pub parts_law : LocalIsSumOfParts
 parts_law A c S h f a =
     let q = polys_of_points A c S h.points in
-    let e = (laws A c).parts (lift_all A c S q) (distinct_up A c S q h) (member A c.curve f.numerator a) f.exponent in
+    let e = (point_laws A c).parts (lift_all A c S q) (distinct_up A c S q h) (member A c.curve f.numerator a) f.exponent in
     ((λ w. sum_down A c S q f a (e.0 (local_at_up A c S q f a w))), λ w. local_at_down A c S q f a (e.1 (sum_up A c S q f a w)))
 
 pub direct_law : PartsAreDirect
 direct_law A c S h parts b l i =
     let q = polys_of_points A c S h.points in
-    all_in_down A c parts b ((laws A c).direct (lift_all A c S q) (distinct_up A c S q h) (frac_all A c parts b) (parts_up A c S q parts b l)
+    all_in_down A c parts b ((point_laws A c).direct (lift_all A c S q) (distinct_up A c S q h) (frac_all A c parts b) (parts_up A c S q parts b l)
     (subst (Fr.InA (Q A c.curve) (d A c.curve)) (sym (total-frac A c parts b)) (in_up A c (total A parts) (total_poly A c parts b) i)))
 
 pub none_law : LocalAtNone
 none_law A c f a =
     let q : All (ArePolys A) [] = All-nil (ArePolys A) in
-    let e = (laws A c).rings.1 (member A c.curve f.numerator a) f.exponent in
+    let e = (point_laws A c).rings.1 (member A c.curve f.numerator a) f.exponent in
     ((λ w. in_down A c f a (e.0 (at_up A c q f a w))), λ w. at_down A c q f a (e.1 (in_up A c f a w)))
 
 pub no_points_law : NoPoints

@@ -2,7 +2,7 @@
 use Rattle.std.proofs.Common.{◌≡◌, ◌↔◌, ℕ, ◌+◌, ◌*◌, List, refl, sym, ap, ap₂, subst}
 use Rattle.std.specs.List.{Contains}
 use Rattle.comm_ring.specs.Ring.{pow}
-use Rattle.closure_laws.specs.Fractions as Fr
+use Rattle.fraction_laws.specs.Fractions as Fr
 use Rattle.polys.specs.declared.term.Term.{Term}
 use Rattle.polys.specs.Terms.{IsPoly, add, mul, power}
 use Rattle.polys.specs.Curve.{CurveData}
