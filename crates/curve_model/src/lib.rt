@@ -2,7 +2,6 @@
 #![tactic(auto)]
 
 mod examples;
-pub mod laws;
 mod point;
 
 pub use examples::{

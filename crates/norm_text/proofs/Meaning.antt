@@ -12,8 +12,8 @@ use Rattle.polys.specs.declared.term.Term.{Term}
 use Rattle.polys.specs.Curve.{CurveData}
 use Rattle.curve_model.specs.Laws.{IsRegular, IsFinite, ArePolys, ArePoints}
 use Rattle.curve_model.specs.Point.{IsPoint}
-use Rattle.curve_model.proofs.ClosingLaws.{exact_law}
-use Rattle.curve_model.proofs.PointSetLaws.{grows_law}
+use Rattle.curve_laws.proofs.ClosingLaws.{exact_law}
+use Rattle.curve_laws.proofs.PointSetLaws.{grows_law}
 use Rattle.curve_points.specs.Points.{AreThePoints}
 use Rattle.curve_points.proofs.Points.{closure_points_law, integral_points_law}
 use Rattle.singular_text.specs.PolyText.{list_text}
