@@ -1,5 +1,5 @@
 -- The cusp over F_7.
-use Rattle.std.proofs.Common.{◌≡◌, ℕ, ◌%◌, ◌<◌, [], ◌∷◌, length, refl, sym, ◌∙◌, arith}
+use Rattle.std.proofs.Common.{◌≡◌, ℕ, ◌%◌, ◌<◌, [], ◌∷◌, length, refl, ◌∙◌, arith}
 use Rattle.std.specs.List.{All}
 use Rattle.std.proofs.lemmas.List.Elements.{All-nil, All-cons}
 use Rattle.polys.specs.Terms.{IsPoly, one, power}
@@ -51,5 +51,4 @@ inverse_is_not_integral h =
     let one_value : value (monic_sum 7 one e cs) % 7 ≡ 1 =
     value-add 7 (power 7 one (length cs)) (lower_sum 7 one e 1 cs)
     ∙ mod_plus 7 (value (power 7 one (length cs))) 1 (value (lower_sum 7 one e 1 cs)) 0 top low in
-    let no : 0 ≡ 1 = sym zero_value ∙ one_value in
     absurd (omega arith)

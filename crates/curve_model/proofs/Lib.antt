@@ -1,25 +1,9 @@
-pub mod Cusp
-pub mod Origin
-pub mod OriginPoint
-pub mod Plane
-pub mod TwoVariables
+-- for the crates above: a curve with the denominator 1
 pub mod UnitDenominator
-pub mod Members
-pub mod Facts
-pub mod Chains
-pub mod Base
-pub mod Equations
-pub mod Locals
-pub mod Regulars
-pub mod Scalars
-pub mod StatedLaws
-pub mod ManyPoints
-pub mod SplitLaws
-pub mod DeltaLaws
-pub mod DescentLaws
-pub mod Coordinates
-pub mod EnlargingLaws
-pub mod CountingLaws
-pub mod LocalRingLaws
-pub mod ClosingLaws
-pub mod ChainLaws
+-- for the examples alone
+mod Cusp
+mod CuspLocal
+mod Origin
+mod OriginPoint
+mod Plane
+mod TwoVariables

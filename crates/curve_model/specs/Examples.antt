@@ -5,6 +5,7 @@ use Rattle.polys.specs.Terms.{one}
 use Rattle.polys.specs.Curve.{CurveData, HasDimModulo}
 use Rattle.curve_model.specs.Fraction.{Fraction, IsFraction, InA, over}
 use Rattle.curve_model.specs.Integral.{Integral}
+use Rattle.curve_model.specs.Local.{Local}
 use Rattle.curve_model.specs.Point.{IsPoint, HasDegree}
 
 -- c x^i y^j
@@ -34,6 +35,10 @@ OriginIsPoint = IsPoint cusp origin
 
 abbrev pub OriginHasDegreeOne : Type 0
 OriginHasDegreeOne = HasDegree cusp origin 1
+
+-- x y over d is local at the origin
+abbrev pub ProductIsLocal : Type 0
+ProductIsLocal = Local cusp origin (over (term_of 1 1 1 ∷ []) 1)
 
 -- ---- the plane over F_7 with d = 2
 

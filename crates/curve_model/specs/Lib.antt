@@ -11,3 +11,8 @@ pub mod Rings
 pub mod Quotient
 pub mod Enlarging
 pub mod Closing
+pub mod OneDelta
+pub mod OneExponent
+pub mod Steps
+pub mod Generators
+pub mod PointSets

@@ -1,11 +1,16 @@
 // The definitions tried on small curves, each the contract of a function that does nothing.
 ghost use Rattle.curve_model.specs.Unit.{UnitsCloseNothing};
-ghost use Rattle.curve_model.specs.Examples.{ProductIsIntegral, InverseIsNotIntegral, OriginIsPoint, OriginHasDegreeOne, PlaneHasNoPoint, PlaneHasNoFractions, OnePointHasDimensionZero};
+ghost use Rattle.curve_model.specs.Examples.{ProductIsIntegral, InverseIsNotIntegral, ProductIsLocal, OriginIsPoint, OriginHasDegreeOne, PlaneHasNoPoint, PlaneHasNoFractions, OnePointHasDimensionZero};
 
 /// On the cusp x^3 = y^2 over F_7 with d = x^2 the fraction xy/d is integral, since its square is x, and 1/d is not.
 pub fn cusp_has_integral_fractions()
     ensures product { ProductIsIntegral }
     ensures inverse { InverseIsNotIntegral }
+{}
+
+/// The fraction xy/d is local at the origin of the cusp: x and y take it into A.
+pub fn cusp_has_a_local_fraction()
+    ensures { ProductIsLocal }
 {}
 
 /// The origin is a point of the cusp, of degree 1.

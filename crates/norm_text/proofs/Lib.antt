@@ -1,3 +1,4 @@
 pub mod Joins
 pub mod Pieces
 pub mod Plain
+mod Meaning

@@ -12,7 +12,7 @@ use Rattle.curve_model.specs.Fraction.{over}
 use Rattle.curve_model.specs.Laws.{IsFinite}
 use Rattle.curve_model.specs.Point.{IsPoint}
 use Rattle.curve_model.specs.Closure.{Closure}
-use Rattle.curve_model.proofs.SplitLaws.{none_law}
+use Rattle.curve_laws.proofs.SplitLaws.{none_law}
 use Rattle.curve_model.proofs.UnitDenominator.{units_close_nothing}
 use Rattle.polys.specs.Curve.{CurveData}
 use Rattle.problem.specs.Problem.{curve_of}

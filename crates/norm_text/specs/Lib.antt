@@ -5,3 +5,4 @@ pub mod Shown
 pub mod Joined
 pub mod Lines
 pub mod Plain
+pub mod Meaning

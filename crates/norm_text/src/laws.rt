@@ -1,8 +1,18 @@
 // The laws of answers: each function has an empty body, and its contract is the law.
 ghost use Rattle.norm_text.specs.Plain.{PlainAnswers};
+ghost use Rattle.norm_text.specs.Meaning.{ModulesAreIntegral, ModulesAreLocal, PowersAreLeast};
 
 /// Where nothing is left modulo a regular denominator and no points are named, the ring is its own closure: there is no
 /// point, the power is 0, and the one numerator is 1.
 pub fn plain_problems_have_plain_answers()
     ensures { PlainAnswers }
+{}
+
+/// What an answer says of fractions. Where the problem names no points, a fraction lies in the printed module exactly where it
+/// is integral, and the printed power is the least that serves; else it lies there exactly where it is integral and local at
+/// the named points.
+pub fn answers_decide_integrality()
+    ensures integral { ModulesAreIntegral }
+    ensures least { PowersAreLeast }
+    ensures local { ModulesAreLocal }
 {}

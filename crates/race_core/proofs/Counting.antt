@@ -1,5 +1,5 @@
 -- Counts and sums over lists.
-use Rattle.std.proofs.Common.{◌≡◌, ◌≢◌, ℕ, zero, suc, ◌+◌, ◌<◌, ◌≤◌, ◌==◌, nat_lt, min, Bool, true, List, [], ◌∷◌, ◌++◌, length, get_or, sum_by, count_by, arith, refl, sym, ap, ⊎_elim}
+use Rattle.std.proofs.Common.{◌≡◌, ◌≢◌, ℕ, zero, suc, ◌+◌, ◌<◌, ◌≤◌, ◌==◌, nat_lt, min, ◌&&◌, Bool, true, false, List, [], ◌∷◌, ◌++◌, length, get_or, sum_by, count_by, arith, refl, sym, ap, ⊎_elim}
 use Rattle.std.proofs.lemmas.Bool.{cases_Bool, cases_eq, cases_lt, cond-false}
 use Rattle.std.proofs.lemmas.Bool.Decides.{nat_tests}
 use Rattle.std.proofs.lemmas.List.Sums.{sum_by-cons, sum_by_push, get_or-le-sum_by}
@@ -43,6 +43,15 @@ two_terms f (x ∷ xs) (suc k) zero d ne a b = omega (arith, sum_by-cons f x xs,
 two_terms f (x ∷ xs) (suc k) (suc l) d ne a b =
     omega (arith, sum_by-cons f x xs, two_terms f xs k l d (λ e. ne (ap suc e)) (omega arith) (omega arith))
 
+-- a test counts once at most
+pub one_at_most : (b : Bool) → one_if b ≤ 1
+one_at_most true = omega arith
+one_at_most false = omega arith
+
+-- two numbers are themselves
+pub pair_itself : (a b : ℕ) → one_if (a == a && b == b) ≡ 1
+pair_itself a b = grind (arith, nat_tests)
+
 -- the sum of f over the numbers below m
 abbrev pub sum_below : (ℕ → ℕ) → ℕ → ℕ
 sum_below f zero = 0
@@ -52,15 +61,15 @@ pub below-same : (f g : ℕ → ℕ) (m : ℕ) → ((t : ℕ) → f t ≡ g t) �
 below-same f g zero same = refl
 below-same f g (suc m) same = omega (arith, same m, below-same f g m same)
 
-below-add : (f g : ℕ → ℕ) (m : ℕ) → sum_below (λ t. f t + g t) m ≡ sum_below f m + sum_below g m
+pub below-add : (f g : ℕ → ℕ) (m : ℕ) → sum_below (λ t. f t + g t) m ≡ sum_below f m + sum_below g m
 below-add f g zero = omega arith
 below-add f g (suc m) = omega (arith, below-add f g m)
 
-below-zero : (m : ℕ) → sum_below (λ t. 0) m ≡ 0
+pub below-zero : (m : ℕ) → sum_below (λ t. 0) m ≡ 0
 below-zero zero = refl
 below-zero (suc m) = omega (arith, below-zero m)
 
-below-single : (y m : ℕ) → sum_below (λ t. one_if (y == t)) m ≡ one_if (nat_lt y m)
+pub below-single : (y m : ℕ) → sum_below (λ t. one_if (y == t)) m ≡ one_if (nat_lt y m)
 below-single y zero = grind (arith, nat_tests)
 below-single y (suc m) =
     let before : sum_below (λ t. one_if (y == t)) m ≡ one_if (nat_lt y m) = below-single y m in

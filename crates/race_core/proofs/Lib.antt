@@ -1,3 +1,4 @@
+-- counts and sums over lists, which the crates above use too
 pub mod Counting
-pub mod Kept
-pub mod Reached
+mod Kept
+mod Reached

@@ -11,7 +11,7 @@ use Rattle.race_core.specs.Runs.{after, AllowsAll, IsRefused}
 use Rattle.race_core.specs.Laws.{StartIsSound, SoundnessIsKept, SoundStatesAccount, IsReached, is_draw, is_win, is_join, is_join_of, ReachedStatesAreSound, NoStratumIsJoinedTwice, JoinedStrataWereWon, EachTicketIsDrawnByOneSeat, DrawsAreAccounted, AllowedListsAreNotRefused}
 use Rattle.race_core.specs.declared.event.Event.{Event}
 use Rattle.race_core.specs.declared.event.Event.TheVariants.{Draw, LookOpen, LookTaken, Win, Lose, Join}
-use Rattle.race_core.proofs.Counting.{times-push, some_passes, one_term, two_terms}
+use Rattle.race_core.proofs.Counting.{times-push, one_at_most, some_passes, one_term, two_terms}
 use Rattle.race_core.proofs.Kept.{initial-shaped, initial-sound, next-shaped, next-sound, next-sizes, draw-cases, entry-same, entry-other, drawn-total, count-bound}
 
 pub start-sound : StartIsSound
@@ -201,10 +201,6 @@ below_one t m below = grind (arith, nat_tests)
 
 below_at : (t m : ℕ) → 0 < one_if (nat_lt t m) → t < m
 below_at t m some = grind (arith, nat_tests)
-
-one_at_most : (b : Bool) → one_if b ≤ 1
-one_at_most true = omega arith
-one_at_most false = omega arith
 
 pub drawn-once : EachTicketIsDrawnByOneSeat
 drawn-once strata seats events c reached =

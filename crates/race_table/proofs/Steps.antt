@@ -21,7 +21,8 @@ use Rattle.race_table.specs.Views.{has, of_seat, times_pair, times_stratum, time
 use Rattle.race_table.specs.Rule.{Held, IsOwn, ToldTruly, state_of, drawn_by, won_by, is_told}
 use Rattle.race_table.specs.Answers.{IsFresh, Tells, IsTakenBy}
 use Rattle.race_table.specs.declared.view.View.{View}
-use Rattle.race_table.proofs.Sums.{at_get, sum-set, has-cases, has-first, has-range, lonely, seat_of, none_pass, some_passes}
+use Rattle.race_core.proofs.Counting.{some_passes}
+use Rattle.race_table.proofs.Sums.{at_get, sum-set, has-cases, has-first, has-range, lonely, seat_of, none_pass}
 use Rattle.race_table.proofs.Seats.{of_seat-push, of_seat-push_else, filter-one, filter-push_else, times-of_seat, flat-set, flat-only, at_number, range-same, range-set}
 
 pub state-shaped : (strata seats : ℕ) (words : List ℕ) (views : List View) → length words ≡ strata + 1 → IsShaped (state_of strata seats words views)

@@ -66,15 +66,3 @@ none_pass P test [] all fails = refl
 none_pass P test (x ∷ xs) all fails =
     let first : one_if (test x) ≡ 0 = cond-false (test x) 1 0 (fails x (All-head P x xs all)) in
     omega (arith, sum_by-cons (λ y. one_if (test y)) x xs, none_pass P test xs (All-tail P x xs all) fails)
-
--- where a count is not 0, an element passes
-pub some_passes : {X : Type 0} (test : X → Bool) (xs : List X) (d : X) → 0 < count_by test xs → (k : ℕ) × (k < length xs) × (test (get_or xs k d) ≡ true)
-some_passes test [] d h = absurd (omega arith)
-some_passes test (x ∷ xs) d h = ⊎_elim
-    (λ yes. (0, omega arith, yes))
-    (λ no.
-    let none : one_if (test x) ≡ 0 = cond-false (test x) 1 0 no in
-    let rest : 0 < count_by test xs = omega (arith, sum_by-cons (λ y. one_if (test y)) x xs) in
-    let found = some_passes test xs d rest in
-    (suc found.0, omega (arith, found.1), found.2))
-    (cases_Bool (test x))

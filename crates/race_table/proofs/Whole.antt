@@ -16,7 +16,8 @@ use Rattle.race_table.specs.Views.{has, InRange, of_seat, HasAll, times_pair, ti
 use Rattle.race_table.specs.Rule.{Held, state_of, drawn_by, won_by, is_told}
 use Rattle.race_table.specs.Answers.{Knows, IsClosed, pass_state, is_told_in}
 use Rattle.race_table.specs.declared.view.View.{View}
-use Rattle.race_table.proofs.Sums.{at_get, has-cases, range-has, seat_of, some_passes}
+use Rattle.race_core.proofs.Counting.{some_passes, pair_itself, one_at_most}
+use Rattle.race_table.proofs.Sums.{at_get, has-cases, range-has, seat_of}
 use Rattle.race_table.proofs.Seats.{times-of_seat, at_number, range-same, range-set}
 use Rattle.race_table.proofs.Steps.{drawn_by-own, is_told-own, won_by-own, state-word, state-shaped, tells}
 use Rattle.race_table.proofs.Cuts.{range-constant}
@@ -64,15 +65,8 @@ module _ (m : List ℕ → ℕ) (one : ℕ → ℕ) (empty : m [] ≡ 0) (more :
       ap (sum_by m) after ∙ (let e : sum_by m (set old (p.1 - 1) (p.0 ∷ of_seat p.1 ps)) ≡ sum_by (λ q. one q.0) (p ∷ ps) =
       omega (arith, sum_by-set m old (p.1 - 1) (p.0 ∷ of_seat p.1 ps) [] long, ap m was, more p.0 (of_seat p.1 ps), rest, sum_by-cons (λ q. one q.0) p ps) in e)
 
-itself : (a b : ℕ) → one_if (a == a && b == b) ≡ 1
-itself a b = cond-true (a == a && b == b) 1 0 (and_from (a == a) (b == b) (eq-eqb a a refl) (eq-eqb b b refl))
-
 is_counted : (i strata w s : ℕ) → 0 < one_if (nat_le 1 i && nat_le i strata && w == s) → w ≡ s
 is_counted i strata w s stands = grind (arith, nat_tests)
-
-at_most_one : (b : Bool) → one_if b ≤ 1
-at_most_one true = omega arith
-at_most_one false = omega arith
 
 module _ (strata seats : ℕ) (words : List ℕ) (views : List View) (held : Held strata seats words views) (id : ℕ) (v : View) (at : get_elem? views id ≡ some v) (part : 0 < v.parts) where
   -- a view's pairs name seats of the table
@@ -80,7 +74,7 @@ module _ (strata seats : ℕ) (words : List ℕ) (views : List View) (held : Hel
   own_seats pairs own = All-from_get_or (λ p. (1 ≤ p.1) × (p.1 ≤ seats)) pairs (0, 0) (λ k inside.
       let p = get_or pairs k (0, 0) in
       let stands : one_if (p.0 == p.0 && p.1 == p.1) ≤ times_pair p.0 p.1 pairs = get_or-le-sum_by (λ q. one_if (q.0 == p.0 && q.1 == p.1)) pairs k (0, 0) inside in
-      let one : one_if (p.0 == p.0 && p.1 == p.1) ≡ 1 = itself p.0 p.1 in
+      let one : one_if (p.0 == p.0 && p.1 == p.1) ≡ 1 = pair_itself p.0 p.1 in
       ⊎_elim
       (λ mine. seat_of seats p.1 views id v held.numbers at mine)
       (λ other.
@@ -118,7 +112,7 @@ module _ (strata seats : ℕ) (words : List ℕ) (views : List View) (held : Hel
       (cases_Bool (p.0 == i))) in
       let counts : times_stratum i v.won ≡ times_pair i w v.won = same_counts (λ p. p.0 == i) (λ p. p.0 == i && p.1 == w) v.won same in
       ⊎_elim
-      (λ mine. omega (arith, won_times i w mine, at_most_one (is_word (state_of strata seats words views) i w)))
+      (λ mine. omega (arith, won_times i w mine, one_at_most (is_word (state_of strata seats words views) i w)))
       (λ other. omega (arith, none_times i w other))
       (has-cases w v)
 

@@ -8,6 +8,7 @@ use Rattle.std.proofs.lemmas.List.Sums.{sum_by-cons, sum_by_push, sum_by-append}
 use Rattle.std.proofs.lemmas.List.Folds.{fold-map}
 use Rattle.race_table.specs.Answers.{Knows}
 use Rattle.race_core.specs.State.{one_if}
+use Rattle.race_core.proofs.Counting.{pair_itself, sum_below, below-same, below-add, below-zero, below-single}
 use Rattle.race_core.specs.Tickets.{ticket_stratum, ticket_kind}
 use Rattle.race_table.specs.Views.{times_pair, times_ticket, with_ticket, united, was_told, HasAll}
 use Rattle.race_table.specs.declared.view.View.{View}
@@ -17,30 +18,6 @@ use Rattle.worker_gate.specs.Crews.{Reported, Raced}
 use Rattle.worker_gate.specs.declared.report.End.{End}
 use Rattle.worker_gate.specs.declared.report.End.TheVariants.{Joined, Withdrawn, GaveUp, Strange}
 use Rattle.worker_gate.specs.declared.report.Report.{Report}
-
--- the sum of f over the numbers below m
-abbrev pub sum_below : (ℕ → ℕ) → ℕ → ℕ
-sum_below f zero = 0
-sum_below f (suc m) = f m + sum_below f m
-
-below-same : (f g : ℕ → ℕ) (m : ℕ) → ((t : ℕ) → f t ≡ g t) → sum_below f m ≡ sum_below g m
-below-same f g zero same = refl
-below-same f g (suc m) same = omega (arith, same m, below-same f g m same)
-
-below-add : (f g : ℕ → ℕ) (m : ℕ) → sum_below (λ t. f t + g t) m ≡ sum_below f m + sum_below g m
-below-add f g zero = omega arith
-below-add f g (suc m) = omega (arith, below-add f g m)
-
-below-zero : (m : ℕ) → sum_below (λ t. 0) m ≡ 0
-below-zero zero = refl
-below-zero (suc m) = omega (arith, below-zero m)
-
-below-single : (y m : ℕ) → sum_below (λ t. one_if (y == t)) m ≡ one_if (nat_lt y m)
-below-single y zero = grind (arith, nat_tests)
-below-single y (suc m) =
-    let before : sum_below (λ t. one_if (y == t)) m ≡ one_if (nat_lt y m) = below-single y m in
-    let step : one_if (y == m) + one_if (nat_lt y m) ≡ one_if (nat_lt y (suc m)) = grind (arith, nat_tests) in
-    omega (arith, before, step)
 
 below-le : (f : ℕ → ℕ) (m : ℕ) → ((t : ℕ) → f t ≤ 1) → sum_below f m ≤ m
 below-le f zero once = omega arith
@@ -88,9 +65,6 @@ below-push m t x s pairs small big old =
     let none : one_if (x == t) ≡ 0 = grind (arith, nat_tests) in
     omega (arith, ticket-push t x s pairs)
 
-itself : (a b : ℕ) → one_if (a == a && b == b) ≡ 1
-itself a b = grind (arith, nat_tests)
-
 module _ (stops : ℕ → ℕ → JobStop → Type 0) (strange : Type 0) where
   -- a report stays just where more is known
   just-more : (strata : ℕ) (pairs more : List (ℕ × ℕ)) → ((i s : ℕ) → 0 < times_pair i s pairs → 0 < times_pair i s more) → (ticket : ℕ) (end : End)
@@ -124,7 +98,7 @@ module _ (stops : ℕ → ℕ → JobStop → Type 0) (strange : Type 0) where
   told-grows i s j u pairs some_pair = omega (arith, sum_by_push (λ q. one_if (q.0 == j && q.1 == u)) pairs (i, s))
 
   told-new : (i s : ℕ) (pairs : List (ℕ × ℕ)) → 0 < times_pair i s (pairs ++ (i, s) ∷ [])
-  told-new i s pairs = omega (arith, sum_by_push (λ q. one_if (q.0 == i && q.1 == s)) pairs (i, s), itself i s)
+  told-new i s pairs = omega (arith, sum_by_push (λ q. one_if (q.0 == i && q.1 == s)) pairs (i, s), pair_itself i s)
 
   pub goes : (v : View) (t : ℕ) (reports : List Report) (end : End) (w : View) → Reported stops strange v reports
       → EndsSo stops strange (ticket_kind v.strata t) (ticket_stratum v.strata t) (with_ticket v t) end w → Goes v t reports end w

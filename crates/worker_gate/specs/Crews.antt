@@ -1,10 +1,11 @@
 -- What a worker did, and what a crew did.
-use Rattle.std.specs.Prelude.{ℕ, ◌≡◌, ◌*◌, ◌≤◌, ◌==◌, true, false, nat_lt, List, [], map, length, count_by}
+use Rattle.std.specs.Prelude.{ℕ, ◌≡◌, ◌*◌, ◌≤◌, ◌==◌, ◌&&◌, true, false, nat_lt, List, [], map, length, count_by}
 use Rattle.race_core.specs.State.{one_if}
-use Rattle.race_table.specs.Views.{was_told, HasAll}
+use Rattle.race_core.specs.Tickets.{ticket_stratum}
+use Rattle.race_table.specs.Views.{was_told, times_stratum, HasAll}
 use Rattle.race_table.specs.declared.view.View.{View}
 use Rattle.race_table.specs.declared.jobs.JobStop.{JobStop}
-use Rattle.worker_gate.specs.Ends.{drawn_pair, won_pairs, AreJust}
+use Rattle.worker_gate.specs.Ends.{drawn_pair, won_pairs, is_stop, AreJust}
 use Rattle.worker_gate.specs.declared.report.Report.{Report}
 
 -- nothing is drawn or won yet, and the tickets are not known to be spent
@@ -35,3 +36,8 @@ pub record Raced (stops : ℕ → ℕ → JobStop → Type 0) (strange : Type 0)
   pub tickets : (t : ℕ) → count_by (λ r. r.ticket == t) reports ≡ one_if (nat_lt t (2 * w.strata))
   pub won : w.won ≡ won_pairs w.strata reports
   pub just : AreJust stops strange w.strata w.won reports
+
+-- a stratum that nobody won has two reports of giving up
+abbrev pub UnwonGaveUp : View → List Report → Type 0
+UnwonGaveUp w reports = (i : ℕ) → 1 ≤ i → i ≤ w.strata → times_stratum i w.won ≡ 0
+    → count_by (λ r. ticket_stratum w.strata r.ticket == i && is_stop r.end) reports ≡ 2

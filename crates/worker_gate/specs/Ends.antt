@@ -22,6 +22,13 @@ is_win (Withdrawn s) = false
 is_win (GaveUp stop) = false
 is_win Strange = true
 
+-- the job stopped
+abbrev pub is_stop : End → Bool
+is_stop Joined = false
+is_stop (Withdrawn s) = false
+is_stop (GaveUp stop) = true
+is_stop Strange = false
+
 -- the ticket and the seat of a report
 abbrev pub drawn_pair : Report → ℕ × ℕ
 drawn_pair r = (r.ticket, r.seat)

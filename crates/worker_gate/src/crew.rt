@@ -2,7 +2,7 @@
 ghost use Rattle.std.specs.Prelude.{◌≡◌, ℕ, ◌+◌, ◌*◌, ◌<◌, ◌≤◌, [], ◌∷◌, ◌++◌, List, length, slice_index_or, vec_len, vec_capacity, IfOk, OnErr};
 ghost use Rattle.race_table.specs.Views.{HasAll};
 ghost use Rattle.race_table.specs.Passes.{view_of, strata_of, BelongsTo};
-ghost use Rattle.worker_gate.specs.Crews.{IsBlank, Raced};
+ghost use Rattle.worker_gate.specs.Crews.{IsBlank, Raced, UnwonGaveUp};
 ghost use Rattle.worker_gate.specs.declared.member.Worker.{Worker};
 ghost use Rattle.worker_gate.specs.Hired.{AreRooms, AreHired, AreDone, AreBack, IsReady, IsDone};
 
@@ -22,12 +22,7 @@ fn make_rooms(alloc: Global, workers: u32, size: usize) -> Result<Vec<Vec<Report
 {
     let mut rooms = Vec::new(alloc);
     for _worker in 0..workers {
-        let Ok(room) = Vec::with_capacity(alloc, size) else {
-            return Err(NoMemory);
-        };
-        if rooms.push(room).is_err() {
-            return Err(NoMemory);
-        }
+        rooms.push(Vec::with_capacity(alloc, size)?)?;
     }
     Ok(rooms)
 }
@@ -156,15 +151,12 @@ where
     requires fresh { IsBlank (view_of pass.old) × HasAll (view_of pass.old) }
     ensures table { BelongsTo table.now pass.new }
     ensures raced { IfOk result (λ reports. Raced (J.may_stop jobs.now) B.may_be_strange (view_of pass.new) reports) }
+    ensures unwon { IfOk result (λ reports. UnwonGaveUp (view_of pass.new) reports) }
     ensures err { OnErr result (view_of pass.new ≡ view_of pass.old) }
 {
     let size = 2 * table.strata() as usize;
-    let Ok(places) = Vec::with_capacity(alloc, workers as usize) else {
-        return Err(NoMemory);
-    };
-    let Ok(all) = Vec::with_capacity(alloc, workers as usize * size) else {
-        return Err(NoMemory);
-    };
+    let places = Vec::with_capacity(alloc, workers as usize)?;
+    let all = Vec::with_capacity(alloc, workers as usize * size)?;
     let rooms = make_rooms(alloc, workers, size)?;
     let mut crew = hire(table, pass, rooms, places);
     run_crew(rt, table, crew.as_mut_slice(), book, jobs, gate);

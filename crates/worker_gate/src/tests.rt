@@ -315,10 +315,119 @@ fn is_held_until_won<R: Threads + Wait + Sync + Abort>(
 // A body on one thread never releases the one that it holds.
 #[test]
 fn a_held_worker_withdraws(rt: HostRuntime) -> Result<(), Fail> {
-    for _ in 0..20 {
+    for _ in 0..3 {
         if is_held_until_won(&rt, rt.alloc())? {
             return Ok(());
         }
     }
     Err("no worker was held until another had won".into())
+}
+
+// A book that notes whether each settle follows its join.
+#[derive(Drop)]
+struct Ordered {
+    joins: u32,
+    settles: u32,
+    astray: u32,
+}
+
+impl BookOf for Ordered {
+    type Done = u32;
+
+    ghost may_be_strange = { ⊥ };
+
+    fn join(&mut self, won: Won, done: u32) -> Join<u32> {
+        if won.spend().0 != done {
+            self.astray = self.astray.saturating_add(1);
+        }
+        self.joins = self.joins.saturating_add(1);
+        Join::Kept
+    }
+
+    fn settle(&mut self) -> Result<bool, NoMemory> {
+        self.settles = self.settles.saturating_add(1);
+        if self.joins != self.settles {
+            self.astray = self.astray.saturating_add(1);
+        }
+        Ok(true)
+    }
+}
+
+// A gate that notes each ticket and each stratum in a digit of its own, and whether the book's lock is held.
+#[derive(Drop)]
+struct Probing<'a> {
+    book: &'a Mutex<Ordered>,
+    drawn: AtomicU32,
+    won: AtomicU32,
+    joined: AtomicU32,
+    held: AtomicU32,
+}
+
+impl<'a> Gate for Probing<'a> {
+    fn at(&self, point: GatePoint) {
+        if self.book.try_lock().is_none() {
+            self.held.fetch_add(1, Ordering::SeqCst);
+        }
+        match point {
+            GatePoint::Drawn(ticket) if ticket < 8 => {
+                self.drawn.fetch_add(1 << (4 * ticket), Ordering::SeqCst);
+            }
+            GatePoint::Won(stratum) if stratum < 5 => {
+                self.won.fetch_add(1 << (4 * stratum), Ordering::SeqCst);
+            }
+            GatePoint::Joined(stratum) if stratum < 5 => {
+                self.joined.fetch_add(1 << (4 * stratum), Ordering::SeqCst);
+            }
+            _ => {}
+        }
+    }
+}
+
+// The tickets drawn, the strata won and joined, and how often the lock was held, in a race of one worker over four
+// strata, so that no other holds the lock.
+fn probed<R: Threads + Wait + Sync>(
+    rt: &R,
+    alloc: Global,
+    book: &Mutex<Ordered>,
+) -> Result<[u32; 4], NoMemory> {
+    let (table, mut pass) = RaceTable::new(alloc, 4, 2)?;
+    let gate = Probing {
+        book,
+        drawn: AtomicU32::new(0),
+        won: AtomicU32::new(0),
+        joined: AtomicU32::new(0),
+        held: AtomicU32::new(0),
+    };
+    let jobs = Even { strata: 4 };
+    race(rt, alloc, &table, &mut pass, book, &jobs, &gate, 1)?;
+    Ok([
+        gate.drawn.load(Ordering::SeqCst),
+        gate.won.load(Ordering::SeqCst),
+        gate.joined.load(Ordering::SeqCst),
+        gate.held.load(Ordering::SeqCst),
+    ])
+}
+
+#[test]
+fn the_gate_sees_each_point(rt: HostRuntime) -> Result<(), Fail> {
+    let book = Mutex::new(Ordered {
+        joins: 0,
+        settles: 0,
+        astray: 0,
+    });
+    let seen = probed(&rt, rt.alloc(), &book)?;
+    assert_eq!(rt; seen, [0x1111_1111, 0x1_1110, 0x1_1110, 0]);
+    let kept = book.into_inner();
+    assert_eq!(rt; (kept.joins, kept.settles, kept.astray), (4, 4, 0));
+    Ok(())
+}
+
+#[test]
+fn nothing_is_raced_over_no_stratum(rt: HostRuntime) -> Result<(), Fail> {
+    let (table, mut pass) = RaceTable::new(rt.alloc(), 0, 3)?;
+    let book = Mutex::new(Foreign);
+    let jobs = Even { strata: 0 };
+    let reports = race(&rt, rt.alloc(), &table, &mut pass, &book, &jobs, &Silent, 2)?;
+    assert_eq!(rt; reports.len(), 0);
+    Ok(())
 }

@@ -1,4 +1,0 @@
-pub mod Fractions
-pub mod Points
-pub mod Curves
-pub mod Laws

@@ -1,0 +1,201 @@
+-- Unique coordinates, decided membership and the dimension modulo powers of d, at polynomials.
+use Rattle.std.proofs.Common.{◌≡◌, ℕ, ◌*◌, ◌%◌, ◌<◌, List, [], ◌∷◌, map, length, All, refl, sym, ap, ap₂, ◌∙◌, subst, mod-eq_of_lt, mod-lt}
+use native.Mathlib.Nat.{mod-mod}
+use Rattle.std.specs.List.{AllZip}
+use Rattle.std.proofs.lemmas.List.{length-map}
+use Rattle.std.proofs.lemmas.List.Elements.{All-nil, All-cons, All-head, All-tail}
+use Rattle.prime_field.specs.Primes.{IsPrime}
+use Rattle.comm_ring.specs.Ring.{CommRing, IsRingMap}
+use Rattle.comm_ring.specs.Residues.{residue_ops}
+use Rattle.comm_ring.specs.Modules.{IsSubmodule, combine, combination, Dimension, module_through}
+use Rattle.comm_ring.specs.Ideals as Ideals
+use Rattle.comm_ring.proofs.Residues.{residues}
+use Rattle.comm_ring.proofs.Fields.{positive_of_prime, residue_field, residue_coefficients}
+use Rattle.comm_ring.proofs.Ideals as IdealLaws
+use Rattle.comm_ring.proofs.Modules.{Module, through}
+use Rattle.comm_ring.proofs.Quotients.{quotient}
+use Rattle.comm_ring.proofs.Dimension as Dimensions
+use Rattle.fraction_laws.proofs.CurveLaws as CurveLaws
+use Rattle.polys.specs.declared.term.Term.{Term}
+use Rattle.polys.specs.Terms.{IsPoly, keep, add, sub, mul}
+use Rattle.polys.specs.Ideal.{InIdeal, number_combination, HasDim}
+use Rattle.polys.specs.Curve.{CurveData}
+use Rattle.polys.specs.Ring.{Member}
+use Rattle.polys.proofs.Affine.{constant, poly_constant, mul_constant, sevens_of, positive}
+use Rattle.monomials.specs.Mono.{unit}
+use Rattle.curve_model.specs.Fraction.{denominator_power}
+use Rattle.curve_model.specs.Laws.{IsFinite}
+use Rattle.curve_model.specs.Quotient.{CoordinatesAreUnique, MembershipIsDecided, PowersHaveDimension}
+use Rattle.curve_laws.proofs.Members.{R, terms_of, lift, terms-lift, polys_of, ideal_from, ideal_to}
+use Rattle.curve_laws.proofs.Base as Base
+use Rattle.curve_laws.proofs.Base.{above_one}
+use Rattle.curve_laws.proofs.Locals.{length-lift, taken_up, taken_down}
+use Rattle.curve_laws.proofs.Chains.{from_zero, of_zero}
+use Rattle.curve_laws.proofs.Scalars as Scalars
+
+module _ (p n : ℕ) (prime : IsPrime p) where
+  high : 1 < p
+  high = above_one p prime
+
+  abbrev Poly : Type 0
+  Poly = Member p n
+
+  abbrev Ring : CommRing
+  Ring = R p n high
+
+  abbrev K : CommRing
+  K = residues p (positive_of_prime p prime)
+
+  abbrev scalar : ℕ → Poly
+  scalar e = record { terms = constant p e; is_poly = poly_constant p n e (positive p high) }
+
+  scalar_map : IsRingMap (residue_ops p) Ring.ops scalar
+  scalar_map = record {
+    resp = λ x y e. ap (λ r. keep r unit []) e;
+    one = ap (λ r. keep r unit []) (mod-eq_of_lt high);
+    add = Scalars.constant_sum p (positive p high);
+    mul = Scalars.constant_product p (positive p high);
+  }
+
+  combination-numbers : (cs : List ℕ) (us : List Poly) → (combination (module_through Ring.ops scalar) cs us).terms ≡ number_combination p cs (terms_of us)
+  unfolding combine
+  combination-numbers [] us = refl
+  combination-numbers (e ∷ cs) [] = refl
+  combination-numbers (e ∷ cs) (u ∷ us) = ap₂ (add p) (mul_constant p e u.terms (sevens_of p n u.terms u.is_poly)) (combination-numbers cs us)
+
+  abbrev number : List ℕ → List Poly → Poly
+  number cs us = combination (module_through Ring.ops scalar) cs us
+
+  abbrev differ : Poly → List ℕ → List Poly → Poly
+  differ f cs us = Ring.◌⊕◌ f (Ring.neg (number cs us))
+
+  differ-terms : (f : Poly) (cs : List ℕ) (us : List Poly) → (differ f cs us).terms ≡ sub p f.terms (number_combination p cs (terms_of us))
+  differ-terms f cs us = ap (sub p f.terms) (combination-numbers cs us)
+
+  module _ (gs : List (List Term)) (a : All (IsPoly p n) gs) where
+    abbrev G : List Poly
+    G = lift p n gs a
+
+    ideal : IsSubmodule (module_through Ring.ops scalar) (Ideals.InIdeal Ring.ops G)
+    ideal = let i = IdealLaws.ideal_of_list Ring G in record { resp = i.resp; none = i.none; add = i.add; scale = λ e x h. i.scale (scalar e) x h }
+
+    abbrev space : Module K
+    space = quotient K (through K Ring scalar scalar_map) (Ideals.InIdeal Ring.ops G) ideal
+
+    module _ (N : ℕ) (D : HasDim p n gs N) where
+      abbrev us : List Poly
+      us = lift p n D.basis D.spans.polys
+
+      basis_is : terms_of us ≡ D.basis
+      basis_is = terms-lift p n D.basis D.spans.polys
+
+      dimension : Dimension space.ops N
+      dimension = (
+        us,
+        length-lift p n D.basis D.spans.polys ∙ D.as_many,
+        (λ k e l. tt),
+        (λ f h. let s = D.spans.each f.terms f.is_poly in (
+          s.residues,
+          s.as_many ∙ sym (length-lift p n D.basis D.spans.polys),
+          ideal_from p n high gs a (differ f s.residues us)
+              (subst (InIdeal p n gs) (sym (differ-terms f s.residues us ∙ ap (λ l. sub p f.terms (number_combination p s.residues l)) basis_is)) s.close),
+        )),
+        λ vs b l s. D.least (terms_of vs) (subst (λ k. k < N) (sym (length-map vs (λ g. g.terms))) l) (record {
+          polys = polys_of p n vs;
+          each = λ f h.
+              let m : Poly = record { terms = f; is_poly = h } in
+              let r = residue_coefficients p (positive_of_prime p prime) space vs m (s m tt) in
+              record {
+                residues = r.0;
+                below = r.2;
+                as_many = r.1 ∙ sym (length-map vs (λ g. g.terms));
+                close = subst (InIdeal p n gs) (differ-terms m r.0 vs) (ideal_to p n high gs a (differ m r.0 vs) r.3);
+              };
+        }),
+      )
+
+      small : (cs es : List ℕ) → All (λ e. e < p) cs → All (λ e. e < p) es → AllZip (λ x y. x % p ≡ y % p) cs es → cs ≡ es
+      small [] [] h k z = refl
+      small [] (e ∷ es) h k z = absurd z
+      small (b ∷ cs) [] h k z = absurd z
+      small (b ∷ cs) (e ∷ es) h k z = ap₂ ◌∷◌
+          (sym (mod-eq_of_lt (All-head (λ x. x < p) b cs h)) ∙ z.0 ∙ mod-eq_of_lt (All-head (λ x. x < p) e es k))
+          (small cs es (All-tail (λ x. x < p) b cs h) (All-tail (λ x. x < p) e es k) z.1)
+
+      unique : (cs es : List ℕ) → All (λ e. e < p) cs → All (λ e. e < p) es → length cs ≡ N → length es ≡ N
+          → InIdeal p n gs (sub p (number_combination p cs D.basis) (number_combination p es D.basis)) → cs ≡ es
+      unfolding dimension
+      unique cs es h k l m i = small cs es h k
+          (Dimensions.unique_coordinates K (residue_field p prime) space us (Dimensions.independent_of_dimension K (residue_field p prime) space (λ f. Unit {0}) N dimension)
+          cs es (l ∙ sym dimension.1) (m ∙ sym dimension.1)
+          (ideal_from p n high gs a (differ (number cs us) es us)
+          (subst (InIdeal p n gs) (sym (differ-terms (number cs us) es us ∙ ap₂ (sub p) (combination-numbers cs us ∙ ap (number_combination p cs) basis_is) (ap (number_combination p es) basis_is))) i)))
+
+      decided : (f : Poly) → Dec (InIdeal p n gs f.terms)
+      decided f = go (Dimensions.dimension_decides K (residue_field p prime) space (λ g. Unit {0}) N dimension f tt)
+        where
+          go : Dec (space.◌≋◌ f space.origin) → Dec (InIdeal p n gs f.terms)
+          go (yes i) = yes (ideal_to p n high gs a f (of_zero Ring (Ideals.InIdeal Ring.ops G) (IdealLaws.ideal_of_list Ring G) f i))
+          go (no i) = no (λ w. i (from_zero Ring (Ideals.InIdeal Ring.ops G) (IdealLaws.ideal_of_list Ring G) f (ideal_from p n high gs a f w)))
+
+pub decided_law : MembershipIsDecided
+decided_law p n prime gs a N D f h = decided p n prime gs a N D (record { terms = f; is_poly = h })
+
+-- ---- modulo powers of d
+
+module _ (A : CurveData) (c : IsFinite A) where
+  above : 0 < A.prime
+  above = positive_of_prime A.prime c.curve.prime
+
+  reduced-numbers : (cs : List ℕ) (vs : List (List Term)) → All (IsPoly A.prime A.variables) vs → number_combination A.prime (map (λ e. e % A.prime) cs) vs ≡ number_combination A.prime cs vs
+  reduced-numbers [] vs h = refl
+  reduced-numbers (e ∷ cs) [] h = refl
+  reduced-numbers (e ∷ cs) (u ∷ vs) h =
+      let s = sevens_of A.prime A.variables u (All-head (IsPoly A.prime A.variables) u vs h) in
+      let k : constant A.prime (e % A.prime) ≡ constant A.prime e = ap (λ r. keep r unit []) (mod-mod e A.prime) in
+      ap₂ (add A.prime) (sym (mul_constant A.prime (e % A.prime) u s) ∙ ap (λ z. mul A.prime z u) k ∙ mul_constant A.prime e u s)
+      (reduced-numbers cs vs (All-tail (IsPoly A.prime A.variables) u vs h))
+
+  below : (cs : List ℕ) → All (λ e. e < A.prime) (map (λ e. e % A.prime) cs)
+  below [] = All-nil (λ e. e < A.prime)
+  below (e ∷ cs) = All-cons (λ b. b < A.prime) (e % A.prime) (map (λ b. b % A.prime) cs) (mod-lt e above) (below cs)
+
+  abbrev apart_from : Base.Poly A c.curve → List ℕ → List (Base.Poly A c.curve) → Base.Poly A c.curve
+  apart_from f cs us = (Base.Ring A c.curve).◌⊕◌ f ((Base.Ring A c.curve).neg (combination (module_through (Base.Ring A c.curve).ops (Scalars.scalar A c)) cs us))
+
+  powers : (t : ℕ) → HasDim A.prime A.variables (denominator_power A t ∷ A.ideal) (c.dimension.0 * t)
+  powers t =
+      let D = (Scalars.laws A c).powers c.dimension.0 (CurveLaws.dimension_of_curve (Base.Ring A c.curve) (Base.I A c.curve) (Scalars.scalar A c) (Base.d A c.curve) c.dimension.0 (Scalars.dimension A c)) t in
+      record {
+        basis = terms_of D.0;
+        as_many = length-map D.0 (λ g. g.terms) ∙ D.1;
+        spans = record {
+          polys = polys_of A.prime A.variables D.0;
+          each = λ f h.
+              let m = Base.member A c.curve f h in
+              let s = D.3 (Base.member A c.curve f h) tt in
+              record {
+                residues = map (λ e. e % A.prime) s.0;
+                below = below s.0;
+                as_many = length-map s.0 (λ e. e % A.prime) ∙ s.1 ∙ sym (length-map D.0 (λ g. g.terms));
+                close = subst (InIdeal A.prime A.variables (denominator_power A t ∷ A.ideal))
+                    (ap (sub A.prime f) (Scalars.combination-numbers A c s.0 D.0 ∙ sym (reduced-numbers s.0 (terms_of D.0) (polys_of A.prime A.variables D.0))))
+                    (taken_down A c.curve t (apart_from (Base.member A c.curve f h) s.0 D.0) s.2);
+              };
+        };
+        least = λ vs l s. D.4 (lift A.prime A.variables vs s.polys) (λ k e b. tt)
+            (subst (λ k. k < c.dimension.0 * t) (sym (length-lift A.prime A.variables vs s.polys)) l)
+            (λ f h. let w = s.each f.terms f.is_poly in (
+              w.residues,
+              w.as_many ∙ sym (length-lift A.prime A.variables vs s.polys),
+              taken_up A c.curve t (apart_from f w.residues (lift A.prime A.variables vs s.polys))
+                  (subst (InIdeal A.prime A.variables (denominator_power A t ∷ A.ideal))
+                  (sym (ap (sub A.prime f.terms) (Scalars.combination-numbers A c w.residues (lift A.prime A.variables vs s.polys) ∙ ap (number_combination A.prime w.residues) (terms-lift A.prime A.variables vs s.polys)))) w.close),
+            ));
+      }
+
+pub powers_law : PowersHaveDimension
+powers_law A c t = powers A c t
+
+pub unique_coordinates_law : CoordinatesAreUnique
+unique_coordinates_law p n prime gs a N D cs es h k l m i = unique p n prime gs a N D cs es h k l m i

@@ -1,5 +1,0 @@
-use Rattle.curve_model.proofs.SplitLaws.{all_points_law}
-use Rattle.curve_model.proofs.laws.all_points_suffice.Goals as goal
-
-pub returns : goal.returns
-returns c = all_points_law

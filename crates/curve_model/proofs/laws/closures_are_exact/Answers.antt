@@ -1,5 +1,0 @@
-use Rattle.curve_model.proofs.ClosingLaws.{exact_law, integral_law, unique_closure_law}
-use Rattle.curve_model.proofs.laws.closures_are_exact.Goals as goal
-
-pub returns : goal.returns
-returns c = record { exact = exact_law; integral = integral_law; unique = unique_closure_law }

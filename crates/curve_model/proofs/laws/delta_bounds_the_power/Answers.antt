@@ -1,5 +1,0 @@
-use Rattle.curve_model.proofs.DeltaLaws.{bound_law}
-use Rattle.curve_model.proofs.laws.delta_bounds_the_power.Goals as goal
-
-pub returns : goal.returns
-returns c = bound_law

@@ -1,5 +1,0 @@
-use Rattle.curve_model.proofs.CountingLaws.{counts_law, members_law}
-use Rattle.curve_model.proofs.laws.delta_is_counted.Goals as goal
-
-pub returns : goal.returns
-returns c = record { basis = counts_law; members = members_law }

@@ -1,5 +1,0 @@
-use Rattle.curve_model.proofs.Regulars.{equal_law}
-use Rattle.curve_model.proofs.laws.equal_fractions_agree.Goals as goal
-
-pub returns : goal.returns
-returns c = equal_law

@@ -1,5 +1,0 @@
-use Rattle.curve_model.proofs.Coordinates.{unique_coordinates_law, decided_law, powers_law}
-use Rattle.curve_model.proofs.laws.finite_quotients_have_coordinates.Goals as goal
-
-pub returns : goal.returns
-returns c = record { unique = unique_coordinates_law; decided = decided_law; powers = powers_law }

@@ -1,5 +1,0 @@
-use Rattle.curve_model.proofs.DescentLaws.{descent_law}
-use Rattle.curve_model.proofs.laws.full_rings_have_the_local_fractions.Goals as goal
-
-pub returns : goal.returns
-returns c = descent_law

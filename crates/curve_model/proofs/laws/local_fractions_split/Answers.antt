@@ -1,5 +1,0 @@
-use Rattle.curve_model.proofs.SplitLaws.{parts_law, all_parts_law}
-use Rattle.curve_model.proofs.laws.local_fractions_split.Goals as goal
-
-pub returns : goal.returns
-returns c = record { local = parts_law; integral = all_parts_law }

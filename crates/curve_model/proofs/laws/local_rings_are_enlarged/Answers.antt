@@ -1,5 +1,0 @@
-use Rattle.curve_model.proofs.EnlargingLaws.{enlargement_law, full_law}
-use Rattle.curve_model.proofs.laws.local_rings_are_enlarged.Goals as goal
-
-pub returns : goal.returns
-returns c = record { enlarged = enlargement_law; full = full_law }

@@ -1,5 +1,0 @@
-use Rattle.curve_model.proofs.StatedLaws.{serves_law}
-use Rattle.curve_model.proofs.laws.one_power_serves.Goals as goal
-
-pub returns : goal.returns
-returns c = serves_law

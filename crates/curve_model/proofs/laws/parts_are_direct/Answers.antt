@@ -1,5 +1,0 @@
-use Rattle.curve_model.proofs.SplitLaws.{direct_law}
-use Rattle.curve_model.proofs.laws.parts_are_direct.Goals as goal
-
-pub returns : goal.returns
-returns c = direct_law
