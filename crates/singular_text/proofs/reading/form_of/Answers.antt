@@ -4,7 +4,7 @@ use Rattle.singular_text.specs.Tokens.{tokens}
 use Rattle.singular_text.specs.Reading.{ring_at}
 use Rattle.singular_text.specs.Forms.{statements_at}
 use Rattle.singular_text.proofs.Wholes.{gives_none, gives_some, no_ring, no_letters, no_statements, ring_letters, is_form, not_distinct, are_distinct}
-use Rattle.singular_text.proofs.problem.form_of.Goals as goal
+use Rattle.singular_text.proofs.reading.form_of.Goals as goal
 
 pub returns-in_default-clause-form : goal.returns-in_default-clause-form
 returns-in_default-clause-form c =

@@ -1,8 +1,8 @@
 use Rattle.std.proofs.Common.{length}
 use Rattle.singular_text.specs.Tokens.{tokens}
-use Rattle.singular_text.specs.Evaluating.{IsFit}
+use Rattle.problem.specs.Problem.{IsFit}
 use Rattle.singular_text.proofs.Statements.{popped, popped_fits, denominator_is}
-use Rattle.singular_text.proofs.problem.denominator.Goals as goal
+use Rattle.singular_text.proofs.reading.denominator.Goals as goal
 
 pub returns-clause-exact : goal.returns-clause-exact
 returns-clause-exact c =

@@ -1,7 +1,7 @@
 use Rattle.std.proofs.Common.{◌≢◌, ℕ, ◌<◌}
 use Rattle.std.specs.Prelude.{slice_index}
-use Rattle.singular_text.specs.Letters.{IsLetter}
-use Rattle.singular_text.proofs.letters.are_distinct_letters.Given as goal
+use Rattle.problem.specs.Letters.{IsLetter}
+use Rattle.problem.proofs.letters.are_distinct_letters.Given as goal
 
 abbrev pub invariant-loop-i : goal.invariant-loop-i
 invariant-loop-i l = record {

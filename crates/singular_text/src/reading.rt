@@ -1,4 +1,4 @@
-// Problems, and how they are read.
+// How problems are read.
 ghost use Rattle.std.specs.Prelude.{◌≡◌, ◌<◌, [], drop, length, nat_lt, if◌then◌else◌, IfOk, IfErr, IfSome, MatchOption, Some, None, Err};
 ghost use Rattle.std.specs.List.{AllByRecursion};
 ghost use Rattle.prime_field.specs.Primes.{IsCharacteristic};
@@ -6,14 +6,14 @@ ghost use Rattle.singular_text.specs.declared.faults.ReadFault.TheVariants.{Synt
 ghost use Rattle.singular_text.specs.Tokens.{tokens};
 ghost use Rattle.singular_text.specs.Values.{number};
 ghost use Rattle.singular_text.specs.Reading.{Gives};
-ghost use Rattle.singular_text.specs.Evaluating.{Agrees, IsFit};
-ghost use Rattle.singular_text.specs.Problem.{IsFitProblem};
+ghost use Rattle.singular_text.specs.Evaluating.{Agrees};
+ghost use Rattle.problem.specs.Problem.{IsFit, IsFitProblem, IsProblem, problem_data};
 ghost use Rattle.singular_text.specs.ProblemText.{ProblemText, IsTextOf, HasText, IsOfText, Answers};
 ghost use Rattle.singular_text.specs.Forms.{HasFitPolys, IsForm, AreRingLetters, statements_at, fault_of, count_fault, denominator_at, points_at, problem_at, problem_by};
 
 use crate::evaluation::Ground;
 use crate::faults::{ReadFault, Which};
-use crate::letters::{Letters, are_distinct_letters};
+use crate::laws::texts_state_problems;
 use crate::ring::{begun_at, ring_at};
 use crate::scanning::{Place, Scan, scan_statements};
 use crate::tokens::next_token;
@@ -21,25 +21,19 @@ use crate::values::number_up_to;
 use lists::{List, NoMemory};
 use polys::Poly;
 use prime_field::Prime;
+use problem::limits::{
+    MAX_DIGITS, MAX_GENERATORS, MAX_NESTING, MAX_POINT_POLYNOMIALS, MAX_STATEMENTS,
+    NO_CHARACTERISTIC,
+};
+use problem::{Letters, Problem, are_distinct_letters};
 use std::alloc::Global;
-
-/// A curve over F_p with what is asked about it: the letters of the variables, 1 to 12 generators of its ideal, a
-/// denominator if one is handed in, and the polynomials of each `at` statement, in order.
-#[derive(Debug, Drop)]
-pub struct Problem {
-    pub prime: Prime,
-    pub letters: Letters,
-    pub generators: List<Poly>,
-    pub denominator: Option<Poly>,
-    pub at: List<List<Poly>>,
-}
 
 // The prime, where it is in the table; all its numbers have at most five digits.
 fn characteristic(digits: &[u8]) -> Result<Prime, ReadFault>
     ensures value { IfOk result (λ p. (p ≡ number digits.now) × IsCharacteristic p) }
     ensures fault { IfErr result (λ fault. (fault ≡ Characteristic) × (IsCharacteristic (number digits.now) → ⊥)) }
 {
-    Prime::new(number_up_to(40000, digits)).ok_or(ReadFault::Characteristic)
+    Prime::new(number_up_to(NO_CHARACTERISTIC, digits)).ok_or(ReadFault::Characteristic)
 }
 
 fn at_most(count: usize, most: usize, which: Which) -> Result<(), ReadFault>
@@ -55,11 +49,11 @@ fn at_most(count: usize, most: usize, which: Which) -> Result<(), ReadFault>
 fn check_counts(scan: &Scan) -> Result<(), ReadFault>
     ensures { fault_of result ≡ count_fault scan.now }
 {
-    at_most(scan.generators, 12, Which::Generators)?;
-    at_most(scan.statements, 16, Which::Points)?;
-    at_most(scan.longest, 12, Which::Points)?;
-    at_most(scan.nesting, 100, Which::Nesting)?;
-    at_most(scan.digits, 18, Which::Digits)
+    at_most(scan.generators, MAX_GENERATORS, Which::Generators)?;
+    at_most(scan.statements, MAX_STATEMENTS, Which::Points)?;
+    at_most(scan.longest, MAX_POINT_POLYNOMIALS, Which::Points)?;
+    at_most(scan.nesting, MAX_NESTING, Which::Nesting)?;
+    at_most(scan.digits, MAX_DIGITS, Which::Digits)
 }
 
 // The text behind its first token.
@@ -197,7 +191,9 @@ pub fn read_problem(alloc: Global, bytes: &[u8]) -> Result<Problem, ReadFault>
     ensures spelled { IsOfText result → HasText bytes.now }
     ensures exact { (t : ProblemText) → IsTextOf bytes.now t → Answers result t }
     ensures fit { IfOk result IsFitProblem }
+    ensures problem { IfOk result (λ problem. IsProblem (problem_data problem)) }
 {
+    texts_state_problems();
     let Some(form) = form_of(alloc, bytes)? else {
         return Err(ReadFault::Syntax);
     };

@@ -1,26 +1,29 @@
 // The letters of the variables.
 ghost use Rattle.std.specs.Prelude.{◌≡◌, ◌≢◌, ℕ, ◌<◌, ◌≤◌, ◌↔◌, ◌⊎◌, length, All, IsTrue, MatchOption, slice_index};
-ghost use Rattle.singular_text.specs.Letters.{AreLetters, IsLetter};
+ghost use Rattle.problem.specs.Letters.{AreLetters, IsLetter, is_among, place};
+ghost use Rattle.problem.specs.declared.limits.TheConstants.{MAX_VARIABLES};
 
+use crate::limits::MAX_VARIABLES;
 use std::marker::Model;
 
 /// 1 to 6 distinct ASCII letters, the names of the variables from the greatest on. Contracts see the list of
 /// their bytes.
 #[derive(Debug, Drop)]
 pub struct Letters {
-    bytes: [u8; 6],
+    bytes: [u8; MAX_VARIABLES],
     count: usize,
 }
 
 impl Model for Letters {
     ghost use Rattle.std.specs.Prelude.{ℕ, List, take, ◌≤◌};
-    ghost use Rattle.singular_text.specs.Letters.{AreLetters};
+    ghost use Rattle.problem.specs.Letters.{AreLetters};
+    ghost use Rattle.problem.specs.declared.limits.TheConstants.{MAX_VARIABLES};
 
     ghost Value = { List ℕ };
 
     ghost view = { λ l. take l.count l.bytes };
 
-    ghost invariant = { λ l. (l.count ≤ 6) × AreLetters (take l.count l.bytes) };
+    ghost invariant = { λ l. (l.count ≤ MAX_VARIABLES) × AreLetters (take l.count l.bytes) };
 }
 
 impl Letters {
@@ -29,10 +32,10 @@ impl Letters {
         ensures { MatchOption result (AreLetters letters.now → ⊥) (λ l. (l ≡ letters.now) × AreLetters letters.now) }
     {
         let count = letters.len();
-        if count == 0 || count > 6 || !are_distinct_letters(letters) {
+        if count == 0 || count > MAX_VARIABLES || !are_distinct_letters(letters) {
             return None;
         }
-        let mut bytes = [0; 6];
+        let mut bytes = [0; MAX_VARIABLES];
         bytes[..count].copy_from_slice(letters);
         Some(Letters { bytes, count })
     }
@@ -56,4 +59,23 @@ pub fn are_distinct_letters(letters: &[u8]) -> bool
         }
     }
     true
+}
+
+/// Whether the byte is one of the letters.
+pub fn is_among(letters: &[u8], byte: u8) -> bool
+    ensures { result ≡ is_among letters.now byte }
+{
+    letters.contains(&byte)
+}
+
+/// The place of a letter, or the number of letters where it is none of them.
+pub fn place(letters: &[u8], letter: u8) -> usize
+    ensures { result ≡ place letters.now letter }
+{
+    for (i, x) in letters.iter().enumerate() {
+        if *x == letter {
+            return i;
+        }
+    }
+    letters.len()
 }

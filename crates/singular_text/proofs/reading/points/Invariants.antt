@@ -1,9 +1,9 @@
 use Rattle.std.proofs.Common.{◌≡◌, ◌-◌, [], length}
 use Rattle.std.specs.List.{AllByRecursion}
 use Rattle.singular_text.specs.Tokens.{tokens}
-use Rattle.singular_text.specs.Evaluating.{IsFit}
+use Rattle.problem.specs.Problem.{IsFit}
 use Rattle.singular_text.specs.Forms.{points_at}
-use Rattle.singular_text.proofs.problem.points.Given as goal
+use Rattle.singular_text.proofs.reading.points.Given as goal
 
 abbrev pub invariant-loop : goal.invariant-loop
 invariant-loop l = record {
