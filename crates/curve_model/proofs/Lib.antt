@@ -7,3 +7,6 @@ mod Origin
 mod OriginPoint
 mod Plane
 mod TwoVariables
+mod Tests
+mod CuspWeights
+mod Axes

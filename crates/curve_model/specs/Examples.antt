@@ -2,7 +2,7 @@
 use Rattle.std.specs.Prelude.{ℕ, List, [], ◌∷◌}
 use Rattle.polys.specs.declared.term.Term.{Term}
 use Rattle.polys.specs.Terms.{one}
-use Rattle.polys.specs.Curve.{CurveData, HasDimModulo}
+use Rattle.polys.specs.Curve.{CurveData, HasDimModulo, HasRegular}
 use Rattle.curve_model.specs.Fraction.{Fraction, IsFraction, InA, over}
 use Rattle.curve_model.specs.Integral.{Integral}
 use Rattle.curve_model.specs.Local.{Local}
@@ -25,9 +25,17 @@ origin = (term_of 1 0 1 ∷ []) ∷ (term_of 1 1 0 ∷ []) ∷ []
 abbrev pub ProductIsIntegral : Type 0
 ProductIsIntegral = Integral cusp (over (term_of 1 1 1 ∷ []) 1)
 
--- 1 over d is not
+-- it is not in A
+abbrev pub ProductIsNotWhole : Type 0
+ProductIsNotWhole = InA cusp (over (term_of 1 1 1 ∷ []) 1) → ⊥
+
+-- 1 over d is not integral
 abbrev pub InverseIsNotIntegral : Type 0
 InverseIsNotIntegral = Integral cusp (over one 1) → ⊥
+
+-- d is regular
+abbrev pub CuspIsRegular : Type 0
+CuspIsRegular = HasRegular cusp
 
 -- y, x is a point of degree 1
 abbrev pub OriginIsPoint : Type 0
@@ -61,3 +69,12 @@ one_point = record { prime = 7; variables = 1; ideal = (term_of 1 1 0 ∷ term_o
 -- modulo d nothing is left
 abbrev pub OnePointHasDimensionZero : Type 0
 OnePointHasDimensionZero = HasDimModulo one_point 0
+
+-- ---- the two axes x y = 0 over F_7 with d = x
+
+abbrev pub axes : CurveData
+axes = record { prime = 7; variables = 2; ideal = (term_of 1 1 1 ∷ []) ∷ []; denominator = term_of 1 1 0 ∷ [] }
+
+-- d is not regular: d y is in I, and y is not
+abbrev pub AxesAreNotRegular : Type 0
+AxesAreNotRegular = HasRegular axes → ⊥
