@@ -41,7 +41,7 @@ tests_of_member f i ψ = test_member (weights ψ) (curve ∷ []) f (All-cons (Pa
 
 -- ---- conversely
 
-curve_poly : IsPoly 7 2 curve
+pub curve_poly : IsPoly 7 2 curve
 curve_poly = record {
   canonical = (omega arith, omega arith, refl, (omega arith, omega arith, tt, tt));
   affine = ((poly_of_term 1 3 0 (omega arith) (omega arith)).affine.0, ((poly_of_term 6 0 2 (omega arith) (omega arith)).affine.0, tt));

@@ -7,6 +7,8 @@ use Rattle.curve_model.specs.Fraction.{Fraction, IsFraction, InA, over}
 use Rattle.curve_model.specs.Integral.{Integral}
 use Rattle.curve_model.specs.Local.{Local}
 use Rattle.curve_model.specs.Point.{IsPoint, HasDegree}
+use Rattle.curve_model.specs.Closure.{InModule}
+use Rattle.curve_model.specs.Rings.{IsFull}
 
 -- c x^i y^j
 abbrev pub term_of : ℕ → ℕ → ℕ → Term
@@ -37,6 +39,10 @@ InverseIsNotIntegral = Integral cusp (over one 1) → ⊥
 abbrev pub CuspIsRegular : Type 0
 CuspIsRegular = HasRegular cusp
 
+-- modulo d the dimension is 4
+abbrev pub CuspHasDimensionFour : Type 0
+CuspHasDimensionFour = HasDimModulo cusp 4
+
 -- y, x is a point of degree 1
 abbrev pub OriginIsPoint : Type 0
 OriginIsPoint = IsPoint cusp origin
@@ -47,6 +53,10 @@ OriginHasDegreeOne = HasDegree cusp origin 1
 -- x y over d is local at the origin
 abbrev pub ProductIsLocal : Type 0
 ProductIsLocal = Local cusp origin (over (term_of 1 1 1 ∷ []) 1)
+
+-- A itself does not hold every fraction that takes its radical at the origin into itself
+abbrev pub CuspIsNotFull : Type 0
+CuspIsNotFull = IsFull cusp origin (InModule cusp 0 (one ∷ [])) → ⊥
 
 -- ---- the plane over F_7 with d = 2
 
