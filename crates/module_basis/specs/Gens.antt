@@ -5,11 +5,8 @@ use Rattle.polys.specs.Poly.{Polynomial}
 use Rattle.monomials.specs.Mono.{total_degree}
 use Rattle.homogenising.specs.Homogenised.{with_hom, homogenised}
 use Rattle.graded_modules.specs.Vector.{IsGenerator}
+pub use Rattle.polys.specs.Poly.{terms_of as term_lists}
 use Rattle.module_basis.specs.declared.gens.Gens.{Gens}
-
--- the lists of terms
-abbrev pub term_lists : List Polynomial → List (List Term)
-term_lists fs = map (λ f. f.terms) fs
 
 -- a homogeneous vector of the program over this prime
 pub record IsHomogeneousOver (p n shift : ℕ) (f : Polynomial) : Type 0 where
