@@ -1,4 +1,6 @@
-// The cusp x^3 = y^2 over F_7 with d = x^2, as far as its examples need the laws.
+//! The definitions of `curve_model` tried on the cusp x^3 = y^2 over F_7 with d = x^2, as far as that needs the laws.
+#![tactic(auto)]
+
 ghost use Rattle.curve_model.specs.Examples.{CuspHasDimensionFour, CuspIsNotFull};
 
 /// Modulo d the cusp has the dimension 4: 1, x, y and xy are a basis.
