@@ -1,14 +1,10 @@
-pub mod Fronts
-pub mod Texts
 pub mod Lexing
 pub mod Counting
 pub mod Scans
 pub mod Listed
 pub mod Numbers
-pub mod Monomials
+pub mod Runs
 pub mod Powers
-pub mod Affine
-pub mod Reader
 pub mod Classes
 pub mod Fits
 pub mod Handing
@@ -23,7 +19,6 @@ pub mod ScanLists
 pub mod Rings
 pub mod Bodies
 pub mod Wholes
-pub mod ReadBack
 pub mod Statements
 pub mod Outcomes
 pub mod Stating

@@ -18,7 +18,8 @@ use Rattle.singular_text.specs.declared.scanning.Scan.{Scan}
 use Rattle.problem.specs.Letters.{is_among}
 use Rattle.singular_text.specs.Words.{is_name}
 use Rattle.singular_text.specs.Expressions.{Expression, nesting, most_digits}
-use Rattle.singular_text.specs.Values.{number, value}
+use Rattle.poly_text.specs.Digits.{number}
+use Rattle.singular_text.specs.Values.{value}
 use Rattle.singular_text.specs.Reading.{begun_at}
 use Rattle.problem.specs.Problem.{ProblemData, problem_data, terms_of, IsFitProblem, IsFit}
 use Rattle.singular_text.specs.ProblemText.{ProblemText, DenominatorText, IsGrammatical, IsTextOf, HasText, AreExpressions, IsDenominator, Answers, list_spelling, denominator_spelling, at_spelling, denominators, denominator_value, expressions, greatest, has_small_values, first_fault, problem_of}

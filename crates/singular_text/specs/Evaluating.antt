@@ -6,7 +6,8 @@ use Rattle.polys.specs.Poly.{Polynomial, sum_of, difference_of, product_of, powe
 use Rattle.problem.specs.Letters.{place}
 use Rattle.problem.specs.Problem.{IsFit}
 use Rattle.singular_text.specs.Words.{class_of}
-use Rattle.singular_text.specs.Values.{number, front_number, run_monomial, term_of, is_small}
+use Rattle.poly_text.specs.Digits.{number}
+use Rattle.singular_text.specs.Values.{front_number, run_monomial, term_of, is_small}
 use Rattle.singular_text.specs.declared.words.Class.{Class}
 use Rattle.singular_text.specs.declared.words.Class.TheVariants as class
 use Rattle.singular_text.specs.declared.faults.ReadFault.{ReadFault}

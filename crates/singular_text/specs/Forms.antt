@@ -13,7 +13,7 @@ use Rattle.singular_text.specs.declared.faults.Which.TheVariants.{Variables, Gen
 use Rattle.problem.specs.declared.problem.Problem.{Problem}
 use Rattle.singular_text.specs.Expressions.{Expression, nesting, most_digits}
 use Rattle.problem.specs.Letters.{IsLetter}
-use Rattle.singular_text.specs.Values.{number}
+use Rattle.poly_text.specs.Digits.{number}
 use Rattle.singular_text.specs.Reading.{begun_at}
 use Rattle.singular_text.specs.Scanning.{scan, first_scan}
 use Rattle.problem.specs.Problem.{IsFit}

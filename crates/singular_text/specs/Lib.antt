@@ -1,6 +1,3 @@
-pub mod PolyText
-pub mod Printing
-pub mod Parts
 pub mod Tokens
 pub mod Words
 pub mod Scanning
@@ -10,5 +7,3 @@ pub mod ProblemText
 pub mod Reading
 pub mod Evaluating
 pub mod Forms
-pub mod PolyReading
-pub mod TermReading

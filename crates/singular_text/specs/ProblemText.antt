@@ -8,7 +8,8 @@ use Rattle.problem.specs.Letters.{IsLetter}
 use Rattle.singular_text.specs.Tokens.{tokens}
 use Rattle.singular_text.specs.Words.{is_name, is_number}
 use Rattle.singular_text.specs.Expressions.{Expression, IsFormed, spelling, nesting, most_digits}
-use Rattle.singular_text.specs.Values.{number, value, subexpressions, is_small}
+use Rattle.poly_text.specs.Digits.{number}
+use Rattle.singular_text.specs.Values.{value, subexpressions, is_small}
 use Rattle.problem.specs.Problem.{ProblemData, IsProblem, problem_data}
 use Rattle.problem.specs.declared.problem.Problem.{Problem}
 use Rattle.singular_text.specs.declared.faults.ReadFault.{ReadFault}

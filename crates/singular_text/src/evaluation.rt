@@ -7,7 +7,8 @@ ghost use Rattle.polys.specs.Poly.{power_of, product_of, sum_of, difference_of};
 ghost use Rattle.singular_text.specs.Tokens.{tokens};
 ghost use Rattle.singular_text.specs.Words.{class_of, is_run, IsLetterOf};
 ghost use Rattle.problem.specs.Letters.{is_among, place};
-ghost use Rattle.singular_text.specs.Values.{number, front_number, run_monomial, term_of, is_small};
+ghost use Rattle.poly_text.specs.Digits.{number};
+ghost use Rattle.singular_text.specs.Values.{front_number, run_monomial, term_of, is_small};
 ghost use Rattle.singular_text.specs.Evaluating.{IsFault, Agrees, AgreesStep, IsFitFrame, checked, zero_poly, term_with, last_term, sum_with, close, new_frame, signed_frame, with_factor, star, sign_step, constant, variable_token, run_value, power_value, number_step, inner_step, step, evaluate};
 ghost use Rattle.problem.specs.Problem.{IsFit};
 
@@ -17,6 +18,7 @@ use crate::values::{digit_value, front_modulo, number_modulo, number_up_to, run_
 use crate::words::{Class, class_of};
 use lists::List;
 use monomials::Mono;
+use poly_text::digit_value;
 use polys::{Poly, Term, degrees_are_bounded, leads_multiply, polynomials_are_a_ring};
 use prime_field::Prime;
 use problem::limits::{MAX_DEGREE, MAX_TERMS};

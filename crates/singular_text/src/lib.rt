@@ -7,8 +7,6 @@
 mod evaluation;
 mod faults;
 mod laws;
-mod poly_reading;
-mod printing;
 mod reading;
 mod ring;
 mod scanning;
@@ -16,10 +14,9 @@ mod tokens;
 mod values;
 mod words;
 
-pub use faults::{PolyFault, ReadFault, Which};
+pub use faults::{ReadFault, Which};
 pub use laws::texts_state_problems;
-pub use poly_reading::{read_poly, texts_tell_polynomials};
-pub use printing::{print_bytes, print_number, print_poly};
+pub use poly_text::{PolyFault, print_bytes, print_number, print_poly, read_poly, texts_tell_polynomials};
 pub use problem::{Letters, Problem};
 pub use reading::read_problem;
 pub use values::number_up_to;
@@ -27,5 +24,3 @@ pub use words::is_number;
 
 #[cfg(test)]
 mod reading_tests;
-#[cfg(test)]
-mod tests;

@@ -4,7 +4,7 @@ ghost use Rattle.std.specs.List.{AllByRecursion};
 ghost use Rattle.prime_field.specs.Primes.{IsCharacteristic};
 ghost use Rattle.singular_text.specs.declared.faults.ReadFault.TheVariants.{Syntax, Characteristic, Limit};
 ghost use Rattle.singular_text.specs.Tokens.{tokens};
-ghost use Rattle.singular_text.specs.Values.{number};
+ghost use Rattle.poly_text.specs.Digits.{number};
 ghost use Rattle.singular_text.specs.Reading.{Gives};
 ghost use Rattle.singular_text.specs.Evaluating.{Agrees};
 ghost use Rattle.problem.specs.Problem.{IsFit, IsFitProblem, IsProblem, problem_data};
