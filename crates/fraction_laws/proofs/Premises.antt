@@ -9,7 +9,8 @@ use Rattle.comm_ring.specs.Modules.{ModuleOps, IsSubmodule, combine, combination
 use Rattle.comm_ring.specs.Ideals.{InIdeal}
 use Rattle.comm_ring.proofs.Derived as Derived
 use Rattle.comm_ring.proofs.Residues.{residues}
-use Rattle.comm_ring.proofs.Fields.{positive_of_prime, inverse, residue_coefficients}
+use Rattle.comm_ring.proofs.Fields.{inverse, residue_coefficients}
+use Rattle.prime_field.proofs.Table.{positive_of_prime}
 use Rattle.comm_ring.proofs.Ideals as Ideals
 use Rattle.comm_ring.proofs.Modules.{Module, through}
 use Rattle.comm_ring.proofs.Quotients.{quotient}
@@ -33,7 +34,7 @@ module _ (Q : CommRing) (p : ℕ) (prime : IsPrime p) (scalar : ℕ → Q.carrie
   infix 40 ◌≈◌
   infixl 60 ◌⊕◌
   infixl 70 ◌⊗◌
-  positive : 0 < p
+  pub positive : 0 < p
   positive = positive_of_prime p prime
 
   pub scalar-zero : scalar 0 ≈ 𝟘
@@ -98,7 +99,7 @@ module _ (Q : CommRing) (p : ℕ) (prime : IsPrime p) (scalar : ℕ → Q.carrie
     abbrev pub Space : ModuleOps ℕ
     Space = modulo (module_through ops scalar) (InIdeal ops (d ∷ []))
 
-    abbrev space : Module (residues p positive)
+    abbrev pub space : Module (residues p positive)
     space = quotient (residues p positive) (through (residues p positive) Q scalar m) (InIdeal ops (d ∷ [])) submodule
 
     spanned_in : (us : List carrier) (f : carrier) → InSpan Space us f → Spanned ops p scalar d us f
