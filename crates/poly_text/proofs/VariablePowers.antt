@@ -4,6 +4,7 @@ use Rattle.std.proofs.Math.ListN.{set}
 use Rattle.std.proofs.lemmas.List.{length-set}
 use Rattle.monomials.specs.Mono.{Monomial, IsMono, pointwise, total_degree, times, unit, variable}
 use Rattle.polys.specs.Terms.{IsAffine, OnlyFirst}
+use Rattle.polys.proofs.Affine.{only_zeros}
 use Rattle.poly_text.specs.Raising.{raised}
 
 abbrev monomial : List ℕ → ℕ → Monomial
@@ -54,11 +55,6 @@ raised_mono m v e known within room = record {
 }
 
 -- ---- the variables
-
-only_zeros : (n k : ℕ) → OnlyFirst n (replicate k 0)
-only_zeros n zero = tt
-only_zeros zero (suc k) = (refl, only_zeros zero k)
-only_zeros (suc n) (suc k) = only_zeros n k
 
 only_set : (n : ℕ) (l : List ℕ) (v e : ℕ) → v < n → OnlyFirst n l → OnlyFirst n (set l v e)
 only_set n [] v e within h = h
