@@ -12,7 +12,7 @@ use polys::{Poly, Term};
 use prime_field::Prime;
 use problem::Letters;
 
-/// Appends the bytes. On want of memory a front of them is appended.
+/// Appends the bytes. Out of memory, a prefix of them is appended.
 pub fn print_bytes(bytes: &[u8], out: &mut List<u8>) -> Result<(), NoMemory>
     ensures { Prints result out.old out.new bytes.now }
 {
@@ -22,7 +22,7 @@ pub fn print_bytes(bytes: &[u8], out: &mut List<u8>) -> Result<(), NoMemory>
     Ok(())
 }
 
-/// Appends the number in decimal, without leading zeros. On want of memory a front of it is appended.
+/// Appends the number in decimal, without leading zeros. Out of memory, a prefix of it is appended.
 pub fn print_number(n: u32, out: &mut List<u8>) -> Result<(), NoMemory>
     ensures { Prints result out.old out.new (decimal n) }
 {
@@ -184,8 +184,8 @@ fn print_signed(
 }
 
 /// Appends the text of a polynomial: its terms from the greatest on, each coefficient c from 1 to p - 1 as c
-/// where it is at most p/2 rounded down and as c - p otherwise, and the variables by their letters. On want of
-/// memory a front of the text is appended.
+/// where it is at most p/2 rounded down and as c - p otherwise, and the variables by their letters. Out of
+/// memory, a prefix of the text is appended.
 pub fn print_poly(letters: &Letters, poly: &Poly, out: &mut List<u8>) -> Result<(), NoMemory>
     ensures { Prints result out.old out.new (poly_text poly.now.prime letters.now poly.now.terms) }
 {

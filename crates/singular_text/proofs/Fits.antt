@@ -5,7 +5,7 @@ use Rattle.std.proofs.lemmas.Bool.Decides.{nat_tests}
 use native.Mathlib.Nat.{mod-eq_of_lt}
 use Rattle.monomials.specs.Mono.{Monomial, total_degree, unit, variable}
 use Rattle.problem.specs.Letters.{is_among, place}
-use Rattle.singular_text.specs.Words.{is_number, is_run, are_run_bytes, IsLetterOf}
+use Rattle.problem_form.specs.Words.{is_number, is_run, are_run_bytes, IsLetterOf}
 use Rattle.singular_text.specs.declared.faults.ReadFault.TheVariants.{Limit}
 use Rattle.singular_text.specs.declared.faults.Which.TheVariants.{Size}
 use Rattle.prime_field.specs.Primes.{IsPrime}

@@ -10,7 +10,7 @@ use Rattle.problem.specs.Letters.{is_among, place}
 use Rattle.problem.proofs.Places.{place_within}
 use Rattle.poly_text.specs.Raising.{raised}
 use Rattle.poly_text.proofs.VariablePowers.{raised_degree, degree_kept, affine_raised}
-use Rattle.singular_text.specs.Words.{are_run_bytes}
+use Rattle.problem_form.specs.Words.{are_run_bytes}
 use Rattle.singular_text.specs.Values.{front_number, run_after, run_monomial, term_of}
 
 -- ---- runs

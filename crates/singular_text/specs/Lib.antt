@@ -1,9 +1,6 @@
-pub mod Tokens
-pub mod Words
-pub mod Scanning
-pub mod Expressions
+-- cited by public clauses
 pub mod Values
-pub mod ProblemText
-pub mod Reading
+pub mod Meanings
+-- steps of the code
 pub mod Evaluating
-pub mod Forms
+pub mod Checks

@@ -2,8 +2,9 @@
 ghost use Rattle.std.specs.Prelude.{◌≡◌, ◌≤◌, ◌<◌, ◌+◌, ◌*◌, ◌-◌, ◌%◌, min, length, take, true, ◌∷◌, IfSome, MatchOption};
 ghost use Rattle.monomials.specs.Mono.{unit, total_degree, IsMono};
 ghost use Rattle.problem.specs.Letters.{is_among, place};
-ghost use Rattle.singular_text.specs.Words.{are_run_bytes};
+ghost use Rattle.problem_form.specs.Words.{are_run_bytes};
 ghost use Rattle.poly_text.specs.Digits.{number};
+ghost use Rattle.problem.specs.declared.limits.TheConstants.{MAX_DEGREE};
 ghost use Rattle.singular_text.specs.Values.{front_digits, front_number, run_after, run_monomial};
 ghost use Rattle.poly_text.specs.Raising.{raised};
 
@@ -56,9 +57,9 @@ fn with_letter(letters: &[u8], mono: Mono, letter: u8, behind: &[u8]) -> Option<
     requires few { length letters.now ≤ 6 }
     requires among { is_among letters.now letter ≡ true }
     requires known { IsMono mono }
-    requires small { total_degree mono.exponents ≤ 60 }
-    ensures exact { MatchOption result (60 < total_degree mono.exponents + front_number behind.now) (λ m. m ≡ raised mono (place letters.now letter) (front_number behind.now)) }
-    ensures known { IfSome result (λ m. IsMono m × (total_degree m.exponents ≤ 60)) }
+    requires small { total_degree mono.exponents ≤ MAX_DEGREE }
+    ensures exact { MatchOption result (MAX_DEGREE < total_degree mono.exponents + front_number behind.now) (λ m. m ≡ raised mono (place letters.now letter) (front_number behind.now)) }
+    ensures known { IfSome result (λ m. IsMono m × (total_degree m.exponents ≤ MAX_DEGREE)) }
 {
     let e = exponent_at(behind);
     if mono.degree() + e > MAX_DEGREE {
@@ -72,9 +73,9 @@ fn with_byte(letters: &[u8], mono: Mono, byte: u8, behind: &[u8]) -> Option<Mono
     requires few { length letters.now ≤ 6 }
     requires bytes { are_run_bytes letters.now (byte ∷ behind.now) ≡ true }
     requires known { IsMono mono }
-    requires small { total_degree mono.exponents ≤ 60 }
-    ensures exact { MatchOption result (60 < total_degree (run_after letters.now mono (byte ∷ behind.now)).exponents) (λ m. run_after letters.now m behind.now ≡ run_after letters.now mono (byte ∷ behind.now)) }
-    ensures known { IfSome result (λ m. IsMono m × (total_degree m.exponents ≤ 60)) }
+    requires small { total_degree mono.exponents ≤ MAX_DEGREE }
+    ensures exact { MatchOption result (MAX_DEGREE < total_degree (run_after letters.now mono (byte ∷ behind.now)).exponents) (λ m. run_after letters.now m behind.now ≡ run_after letters.now mono (byte ∷ behind.now)) }
+    ensures known { IfSome result (λ m. IsMono m × (total_degree m.exponents ≤ MAX_DEGREE)) }
 {
     if byte.is_ascii_digit() {
         return Some(mono);
@@ -86,8 +87,8 @@ fn with_byte(letters: &[u8], mono: Mono, byte: u8, behind: &[u8]) -> Option<Mono
 pub fn run_monomial(letters: &[u8], word: &[u8]) -> Option<Mono>
     requires few { length letters.now ≤ 6 }
     requires bytes { are_run_bytes letters.now word.now ≡ true }
-    ensures exact { MatchOption result (60 < total_degree (run_monomial letters.now word.now).exponents) (λ m. m ≡ run_monomial letters.now word.now) }
-    ensures known { IfSome result (λ m. IsMono m × (total_degree m.exponents ≤ 60)) }
+    ensures exact { MatchOption result (MAX_DEGREE < total_degree (run_monomial letters.now word.now).exponents) (λ m. m ≡ run_monomial letters.now word.now) }
+    ensures known { IfSome result (λ m. IsMono m × (total_degree m.exponents ≤ MAX_DEGREE)) }
 {
     let mut mono = Mono::one();
     for (i, byte) in word.iter().enumerate() {
@@ -98,7 +99,7 @@ pub fn run_monomial(letters: &[u8], word: &[u8]) -> Option<Mono>
 
 // The number at the front, which is 1 where no digit stands there, or 61 where it is greater.
 fn exponent_at(word: &[u8]) -> u32
-    ensures { result ≡ min (front_number word.now) 61 }
+    ensures { result ≡ min (front_number word.now) (MAX_DEGREE + 1) }
 {
     let count = digits_at_front(word);
     if count == 0 {
