@@ -1,15 +1,11 @@
 -- A whole text: its form is taken exactly where it is of the grammar.
-use Rattle.std.proofs.Common.{◌≡◌, ℕ, ◌<◌, ◌≤◌, ◌≢◌, List, [], ◌∷◌, ◌++◌, Bool, true, false, cond, ◌==◌, ◌||◌, ◌&&◌, length, refl, sym, ap, ◌∙◌, subst, arith, append_assoc, Option, Some, None, inl, inr}
+use Rattle.std.proofs.Common.{◌≡◌, ℕ, ◌<◌, ◌≤◌, ◌≢◌, List, [], ◌∷◌, ◌++◌, Bool, true, false, cond, length, refl, sym, ap, ◌∙◌, subst, arith, append_assoc, Option, Some, None}
 use Rattle.std.specs.Prelude.{codes, All, AllPairs, slice_index, option_and_then, option_map, unwrap_or}
-use Rattle.std.specs.Char.{is_ascii_alphabetic}
-use Rattle.std.specs.List.{list_all}
-use Rattle.std.proofs.lemmas.Bool.Decides.{nat_tests}
 use Rattle.std.proofs.lemmas.List.{get_or_default}
-use Rattle.std.proofs.lemmas.List.Sums.{list_all-from_AllPass}
 use Rattle.problem_form.specs.declared.scanning.Place.{Place}
 use Rattle.problem_form.specs.declared.scanning.Place.TheVariants.{Start, Operand, Base, Caret, Factor, Between, PolyName, PolyEquals}
 use Rattle.problem_form.specs.declared.scanning.Scan.{Scan}
-use Rattle.problem.specs.Letters.{IsLetter, is_among}
+use Rattle.problem.specs.Letters.{IsLetter}
 use Rattle.problem.proofs.Places.{all_alphabetic, letters_alphabetic}
 use Rattle.problem_form.specs.Tokens.{tokens}
 use Rattle.problem_form.specs.Words.{is_name, is_number}
@@ -17,7 +13,6 @@ use Rattle.problem_form.specs.Reading.{begun_at, ring_at, Gives}
 use Rattle.problem_form.specs.Scanning.{scan, first_scan}
 use Rattle.problem_form.specs.ProblemText.{ProblemText, IsGrammatical, IsTextOf, HasText, problem_spelling, letters_spelling, ideal_spelling, denominator_spelling, at_spelling}
 use Rattle.problem_form.specs.Forms.{is_between, statements_at, body_spelling, IsFormOf, IsForm, AreRingLetters}
-use Rattle.problem_form.proofs.Lexing.{same_number}
 use Rattle.problem_form.proofs.Rings.{ring_is, ring_some, RingFound, ideal_is, begun_some, Begun, bind_some}
 use Rattle.problem_form.proofs.Bodies.{body_read, BodyRead, body_found, BodyFound}
 

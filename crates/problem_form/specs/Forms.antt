@@ -1,5 +1,5 @@
 -- The form of a whole text and its counts.
-use Rattle.std.specs.Prelude.{ℕ, ◌≡◌, ◌≢◌, ◌≤◌, All, AllPairs, length, codes, if◌then◌else◌, Bool, true, false, List, [], ◌++◌, Option, None, Some, option_and_then, flat_map}
+use Rattle.std.specs.Prelude.{ℕ, ◌≡◌, ◌≢◌, ◌≤◌, All, AllPairs, length, codes, if◌then◌else◌, Bool, true, false, List, ◌++◌, Option, None, Some, option_and_then, flat_map}
 use Rattle.problem.specs.Letters.{IsLetter}
 use Rattle.problem_form.specs.declared.scanning.Place.{Place}
 use Rattle.problem_form.specs.declared.scanning.Place.TheVariants.{Between}

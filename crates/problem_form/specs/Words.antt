@@ -1,6 +1,6 @@
 -- What the tokens of a problem are.
 use Rattle.std.specs.Prelude.{ℕ, ◌≡◌, ◌==◌, ◌&&◌, ◌||◌, nat_lt, nat_eq, not, max, suc, if◌then◌else◌, Bool, true, List, [], ◌∷◌, length}
-use Rattle.std.specs.List.{list_all, list_any}
+use Rattle.std.specs.List.{list_all}
 use Rattle.std.specs.Cmp.Lexicographic.{pointwise}
 use Rattle.std.specs.Char.{is_ascii_digit, is_ascii_alphabetic}
 use Rattle.problem.specs.Letters.{is_among}
