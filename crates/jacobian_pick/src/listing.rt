@@ -27,7 +27,7 @@ fn first_list(alloc: Global, problem: &Problem, basis: &[Poly]) -> Result<List<P
     ensures low { IfOk result (λ ms. All (IsUpTo problem.now.prime (length problem.now.letters) 118) ms) }
     ensures exact { IfOk result (λ ms. AreFirst (problem_data problem.now) (terms_of ms)) }
 {
-    let _p = problem.prime.get();
+    let _prime = problem.prime.get();
     let variables = variables_of(problem);
     let raw = jacobian(
         alloc,
@@ -51,7 +51,7 @@ fn second_list(
     ensures low { IfOk result (λ ms. All (IsUpTo problem.now.prime (length problem.now.letters) 119) ms) }
     ensures exact { IfOk result (λ ms. AreSecond (problem_data problem.now) (terms_of first.now) (terms_of ms)) }
 {
-    let _p = problem.prime.get();
+    let _prime = problem.prime.get();
     let raw = sums_by_numbers(alloc, problem.prime, variables_of(problem), six(first))?;
     kept(alloc, problem, basis, raw.as_slice())
 }
@@ -69,7 +69,7 @@ fn third_list(
     ensures low { IfOk result (λ ms. All (IsUpTo problem.now.prime (length problem.now.letters) 119) ms) }
     ensures exact { IfOk result (λ ms. AreThird (problem_data problem.now) (terms_of first.now) (terms_of ms)) }
 {
-    let _p = problem.prime.get();
+    let _prime = problem.prime.get();
     let raw = sums_by_variables(alloc, problem.prime, variables_of(problem), six(first))?;
     kept(alloc, problem, basis, raw.as_slice())
 }
@@ -82,7 +82,7 @@ fn third_list(
 /// sums of two of the first six of these by numbers, and then those by variables. Members of the ideal are left out.
 ///
 /// # Errors
-/// `NoMemory` for want of memory.
+/// `NoMemory` when out of memory.
 pub fn candidates(alloc: Global, problem: &Problem, basis: &[Poly]) -> Result<List<Poly>, NoMemory>
     requires ready { IsReady problem.now }
     requires basis { IsBasisOf problem.now basis.now }

@@ -7,9 +7,9 @@ use Rattle.prime_field.specs.Primes.{IsPrime}
 use Rattle.polys.specs.declared.term.Term.{Term}
 use Rattle.polys.specs.Curve.{HasDimModulo}
 use Rattle.polys.specs.Ideal.{HasDim}
-use Rattle.polys.specs.Poly.{Polynomial}
+use Rattle.polys.specs.Poly.{Polynomial, terms_of}
 use Rattle.polys.specs.Terms.{IsPoly}
-use Rattle.problem.specs.Problem.{IsFit, ProblemData, curve_of, problem_data, IsFitProblem, terms_of}
+use Rattle.problem.specs.Problem.{IsFit, ProblemData, curve_of, problem_data, IsFitProblem}
 use Rattle.problem.specs.declared.problem.Problem.{Problem}
 use Rattle.norm_text.specs.Plain.{IsPlain, plain_answer}
 use Rattle.norm_text.specs.Answer.{answer_text}
