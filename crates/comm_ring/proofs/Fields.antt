@@ -6,6 +6,7 @@ use native.Mathlib.Decide.{ℕ_discrete}
 use Rattle.std.proofs.lemmas.Nat.{mul-mod_second}
 use Rattle.std.proofs.lemmas.List.Elements.{All-nil, All-cons}
 use Rattle.prime_field.specs.Primes.{IsPrime}
+use Rattle.prime_field.proofs.Table.{positive_of_prime, above_one}
 use Rattle.comm_ring.specs.Residues.{residue_ops}
 use Rattle.comm_ring.specs.Modules.{IsField, combination, InSpan}
 use Rattle.comm_ring.proofs.Residues.{mod_ring, mod_quote, residues}
@@ -49,26 +50,21 @@ search_inverse p (suc fuel) a prime within pos small = go (ℕ_discrete a 1) (se
 pub inverse : (p : ℕ) → IsPrime p → (c : ℕ) → 0 < c → c < p → (e : ℕ) × (e * c) % p ≡ 1
 inverse p prime c pos small = search_inverse p c c prime (omega arith) pos small
 
--- a prime is above 0
-pub positive_of_prime : (p : ℕ) → IsPrime p → 0 < p
-positive_of_prime p prime = let l : 2 ≤ p = prime.0 in omega arith
-
 -- each number modulo a prime is 0 or has an inverse
 pub residue_field : (p : ℕ) → IsPrime p → IsField (residue_ops p)
 residue_field p prime = record {
-  proper = λ e. (let l : 1 < p = omega arith in let z : 0 < p = omega arith in absurd (let h : 1 ≡ 0 = sym (mod-eq_of_lt l) ∙ e ∙ mod-eq_of_lt z in omega arith));
+  proper = λ e. absurd (let h : 1 ≡ 0 = sym (mod-eq_of_lt (above_one p prime)) ∙ e ∙ mod-eq_of_lt positive in omega arith);
   zero_or_inverse = λ c. go c (ℕ_discrete (c % p) 0);
 }
   where
     positive : 0 < p
-    positive = let l : 2 ≤ p = prime.0 in omega arith
+    positive = positive_of_prime p prime
 
     go : (c : ℕ) → Dec (c % p ≡ 0) → (c % p ≡ 0 % p) ⊎ ((e : ℕ) × ((e * c) % p) % p ≡ 1 % p)
     go c (yes z) = inl (z ∙ sym (mod-eq_of_lt positive))
     go c (no n) =
         let i = inverse p prime (c % p) (omega arith) (mod-lt c positive) in
-        let l : 1 < p = (let k : 2 ≤ p = prime.0 in omega arith) in
-        inr (i.0, mod-mod (i.0 * c) p ∙ sym (mul-mod_second i.0 c p) ∙ i.1 ∙ sym (mod-eq_of_lt l))
+        inr (i.0, mod-mod (i.0 * c) p ∙ sym (mul-mod_second i.0 c p) ∙ i.1 ∙ sym (mod-eq_of_lt (above_one p prime)))
 
 -- coefficients below p
 module _ (p : ℕ) (positive : 0 < p) (M : Module (residues p positive)) where

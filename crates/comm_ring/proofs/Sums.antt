@@ -9,11 +9,12 @@ use Rattle.comm_ring.proofs.Quote.{ring, ring_by, fact, quote}
 use Rattle.comm_ring.proofs.Joined as Joined
 use Rattle.comm_ring.proofs.Joined.{additive, multiplicative}
 
-range-last : (a n : ℕ) → range_with_len a (suc n) ≡ range_with_len a n ++ ((a + n) ∷ [])
+-- a range, and the numbers below n, end in their last one
+pub range-last : (a n : ℕ) → range_with_len a (suc n) ≡ range_with_len a n ++ ((a + n) ∷ [])
 range-last a zero = let e : a ≡ a + 0 = omega arith in ap (λ k. k ∷ []) e
 range-last a (suc n) = ap (λ l. a ∷ l) (range-last (a + 1) n ∙ (let e : (a + 1) + n ≡ a + suc n = omega arith in ap (λ k. range_with_len (a + 1) n ++ (k ∷ [])) e))
 
-below-suc : (n : ℕ) → below (suc n) ≡ below n ++ (n ∷ [])
+pub below-suc : (n : ℕ) → below (suc n) ≡ below n ++ (n ∷ [])
 below-suc n = range-last 0 n ∙ (let e : 0 + n ≡ n = omega arith in ap (λ k. below n ++ (k ∷ [])) e)
 
 module _ (R : CommRing) where

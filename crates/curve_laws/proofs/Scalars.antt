@@ -6,7 +6,8 @@ use Rattle.comm_ring.specs.Residues.{residue_ops}
 use Rattle.comm_ring.specs.Modules.{ModuleOps, combine, combination, Dimension, module_through, IsSubmodule}
 use Rattle.comm_ring.specs.Ideals as Ideals
 use Rattle.comm_ring.proofs.Residues.{residues, mod_ring, mod_quote}
-use Rattle.comm_ring.proofs.Fields.{positive_of_prime, residue_coefficients}
+use Rattle.comm_ring.proofs.Fields.{residue_coefficients}
+use Rattle.prime_field.proofs.Table.{positive_of_prime}
 use Rattle.comm_ring.proofs.Ideals as IdealLaws
 use Rattle.comm_ring.proofs.Modules.{Module, through}
 use Rattle.comm_ring.proofs.Quotients.{quotient}

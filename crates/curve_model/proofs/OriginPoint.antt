@@ -6,14 +6,14 @@ use Rattle.std.specs.declared.cmp.Ordering.TheVariants.{Less, Greater}
 use native.Mathlib.Nat.{mod-lt, mod-eq_of_lt, mul-add-mod_self_left}
 use Rattle.std.proofs.lemmas.Nat.{mul-mod_first, mul-mod_second}
 use Rattle.monomials.specs.Mono.{Monomial, Divides, times, unit, cmp_dp}
-use Rattle.monomials.proofs.Order.{multiple_not_less, times_comm, times_one}
+use Rattle.monomials.proofs.Order.{multiple_not_less, times_comm, times_one, turn_down}
 use Rattle.prime_field.specs.Primes.{IsPrime}
 use Rattle.prime_field.proofs.Table.{characteristics-are_prime}
 use Rattle.polys.specs.declared.term.Term.{Term}
 use Rattle.polys.specs.Terms.{IsPoly, IsMonic, IsAffine, add, sub, multiple, scaled, one}
 use Rattle.polys.specs.Ideal.{InIdeal, Spans, IsSpanned, number_combination}
 use Rattle.polys.specs.Reduced.{Reduced, leads, lower_monos, IsLead, IsMinimalLead}
-use Rattle.polys.proofs.Weights.{weigh, Alike, turn_down, weigh-append, weigh-normal, normal_ext, mod_plus}
+use Rattle.polys.proofs.Weights.{weigh, Alike, weigh-append, weigh-normal, normal_ext, mod_plus}
 use Rattle.polys.proofs.Units.{canonical_same, weigh-scaled}
 use Rattle.polys.proofs.Affine.{poly_one}
 use Rattle.polys.proofs.Field.{inverse}

@@ -10,7 +10,7 @@ use Rattle.polys.specs.Ideal.{InIdeal, combination, Regular}
 use Rattle.polys.proofs.Affine.{constant, poly_constant, mul_constant, poly_mul, poly_add, poly_none, sevens_of}
 use Rattle.polys.proofs.Each.{every_more}
 use Rattle.polys.proofs.Ideals.{in_none, in_add, in_mul}
-use Rattle.polys.proofs.Sums.{mul_assoc, mul_comm, mul-add, mul_zero}
+use Rattle.polys.proofs.Sums.{mul_assoc, mul_comm, mul-add, mul_none}
 use Rattle.polys.proofs.Units.{canonical_same}
 use Rattle.polys.proofs.Unique.{unique_law}
 use Rattle.graded_modules.specs.Vector.{IsGradedVector, IsFactor, IsGenerator, lead_mono}
@@ -23,7 +23,8 @@ use Rattle.homogenising.proofs.Order.{lift}
 use Rattle.homogenising.proofs.Images.{image, sent}
 use Rattle.homogenising.proofs.Monomials.{lower, lower_divides, lower_lift, graded_lift}
 use Rattle.homogenising.proofs.Stays.{factor_of, lower_product, lower_member, lower_polys, lift_factor, lift_product, lift_combination, contains_map, lead_seven}
-use Rattle.homogenising.proofs.Spanning.{IsIdeal, held, spans, add_sub}
+use Rattle.homogenising.proofs.Spanning.{IsIdeal, held, spans}
+use Rattle.polys.proofs.Differences.{add_sub}
 use Rattle.denominator_module.specs.Module.{module_of, first, second, colon_members, InColon}
 use Rattle.denominator_module.specs.Laws.{AreGiven, IsModuleBasis, Generates, RegularByColon}
 use Rattle.denominator_module.proofs.Pairs.{pos, two, homogeneous_d, homogeneous_gs, pairs, heightened, embedded, embedded_inside}
@@ -58,7 +59,7 @@ module _ (p n : ℕ) (d : List Term) (gs : List (List Term)) (given : AreGiven p
   colon_ideal =
       record {
         polys = λ f c. c.0;
-        none = (poly_none p n, subst (InIdeal p n gs) (sym (mul_zero p d)) (in_none p n gs));
+        none = (poly_none p n, subst (InIdeal p n gs) (sym (mul_none p d)) (in_none p n gs));
         add = colon_add;
         sub = colon_sub;
         mul = colon_mul;

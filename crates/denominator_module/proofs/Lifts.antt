@@ -32,7 +32,8 @@ use Rattle.homogenising.proofs.Images.{image, every_image, sent, sent-add}
 use Rattle.homogenising.proofs.Monomials.{lower, degree_lower}
 use Rattle.homogenising.proofs.Stays.{factor_of, lower_factor, lower_member, lower_product, lift_factor, lift_product}
 use Rattle.homogenising.proofs.Descent.{Step, descent}
-use Rattle.homogenising.proofs.Spanning.{Low, cancel, sub_add, add_sub, taken}
+use Rattle.homogenising.proofs.Spanning.{Low, cancel}
+use Rattle.polys.proofs.Differences.{sub_add, add_sub, less_difference}
 use Rattle.denominator_module.specs.Module.{module_of, first, second, quotient_of}
 use Rattle.denominator_module.specs.Laws.{AreGiven, IsModuleBasis, LiftLaws}
 use Rattle.denominator_module.proofs.Components.{IsLow, lowered, every_second, first_plain, second_plain, canonical_first}
@@ -223,7 +224,7 @@ module _ (p n : ℕ) (d : List Term) (gs bs : List (List Term)) (k : ℕ) (given
         left : InModule p n H (first r)
         left =
             subst (InModule p n H)
-            (taken p (image (lift (degree_of g + k)) g) (first r) above homogeneous_v.generator.vector.canonical (canonical_first p r vector.canonical))
+            (less_difference p (image (lift (degree_of g + k)) g) (first r) above homogeneous_v.generator.vector.canonical (canonical_first p r vector.canonical))
             (members.in_sub p n H (image (lift (degree_of g + k)) g) (sub p (image (lift (degree_of g + k)) g) (first r)) above (reached c) inside_first)
 
         go : (w : List Term) → first r ≡ w → InModule p n H w → first r ≡ []

@@ -12,6 +12,8 @@ use Rattle.polys.specs.declared.term.Term.{Term}
 use Rattle.polys.specs.Terms.{EachMono, IsCanonical, IsPoly, OnlyFirst, Under, normal, one, add, sub, mul, products, degree_of}
 use Rattle.polys.specs.Poly.{IsPlain}
 use Rattle.polys.specs.Ideal.{combination}
+use Rattle.prime_field.proofs.Table.{positive_of_prime, above_one}
+use Rattle.polys.proofs.Affine.{only_zeros}
 use Rattle.polys.proofs.Each.{every_append, every_more, every_zip, every_normal, every_products, every_add, every_mul}
 use Rattle.polys.proofs.Sums.{add_comm, mul-add}
 use Rattle.polys.proofs.Units.{canonical_same, mul_one, add_none}
@@ -23,7 +25,7 @@ use Rattle.homogenising.specs.Laws.{IsHomogeneousPoly}
 use Rattle.homogenising.proofs.Lifted.{homogenised_law}
 use Rattle.homogenising.proofs.Stays.{module_cons}
 use Rattle.homogenising.proofs.Images.{image, canonical_image}
-use Rattle.homogenising.proofs.Spanning.{add_sub}
+use Rattle.polys.proofs.Differences.{add_sub}
 use Rattle.denominator_module.specs.Module.{with_unit, module_of, first, second}
 use Rattle.denominator_module.specs.Laws.{AreGiven}
 use Rattle.denominator_module.proofs.Components.{IsLow, cmp_lowered, first-append, first-add, first-mul, first_plain, second-append, second-add, second-mul, second_plain}
@@ -39,11 +41,6 @@ second_unit = record { coeff = 1; mono = second_mono } ∷ []
 abbrev pub heightened : Monomial → Monomial
 heightened m = record { exponents = m.exponents; component = 1 }
 
-only_zeros : (n k : ℕ) → OnlyFirst n (replicate k 0)
-only_zeros n zero = tt
-only_zeros zero (suc k) = (refl, only_zeros zero k)
-only_zeros (suc n) (suc k) = only_zeros n k
-
 graded_second : (n : ℕ) → IsGraded n second_mono
 graded_second n = record { seven = refl; first = only_zeros n 6; two = (omega arith) }
 
@@ -55,10 +52,10 @@ plain_degree shift m h =
 
 module _ (p n : ℕ) (d : List Term) (gs : List (List Term)) (given : AreGiven p n d gs) where
   pub pos : 0 < p
-  pos = let h = given.prime.0 in omega arith
+  pos = positive_of_prime p given.prime
 
   pub two : 1 < p
-  two = let h = given.prime.0 in omega arith
+  two = above_one p given.prime
 
   pub homogeneous_d : IsHomogeneousPoly p n (homogenised d)
   homogeneous_d = homogenised_law.homogeneous p n d given.six given.denominator

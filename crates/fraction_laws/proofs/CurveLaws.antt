@@ -11,7 +11,7 @@ use Rattle.comm_ring.proofs.Ideals as Ideals
 use Rattle.comm_ring.proofs.Ideals.{quotient_ring}
 use Rattle.comm_ring.proofs.Modules as Modules
 use Rattle.comm_ring.proofs.Residues.{residues}
-use Rattle.comm_ring.proofs.Fields.{positive_of_prime}
+use Rattle.prime_field.proofs.Table.{positive_of_prime}
 use Rattle.fraction_laws.specs.Fractions.{Regular}
 use Rattle.fraction_laws.specs.Laws.{FractionLaws}
 use Rattle.fraction_laws.specs.Curves.{curve_ops, RegularOver, space_over}

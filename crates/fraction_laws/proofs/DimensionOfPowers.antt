@@ -10,7 +10,8 @@ use Rattle.comm_ring.specs.Ideals.{InIdeal}
 use Rattle.comm_ring.proofs.Derived as Derived
 use Rattle.comm_ring.proofs.Quote.{ring, ring_by, fact, quote}
 use Rattle.comm_ring.proofs.Residues.{residues}
-use Rattle.comm_ring.proofs.Fields.{positive_of_prime, residue_field}
+use Rattle.comm_ring.proofs.Fields.{residue_field}
+use Rattle.prime_field.proofs.Table.{positive_of_prime}
 use Rattle.comm_ring.proofs.Modules.{Module, through}
 use Rattle.comm_ring.proofs.Quotients.{quotient}
 use Rattle.comm_ring.proofs.Dimension.{dimension_adds, dimension_of_basis, basis_of_dimension, basis_carried}

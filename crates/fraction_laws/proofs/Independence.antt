@@ -10,7 +10,7 @@ use Rattle.comm_ring.specs.Residues.{residue_ops}
 use Rattle.comm_ring.specs.Modules.{ModuleOps, IsSubmodule, combination, module_through}
 use Rattle.comm_ring.specs.Modules as Linear
 use Rattle.comm_ring.proofs.Residues.{residues}
-use Rattle.comm_ring.proofs.Fields.{positive_of_prime}
+use Rattle.prime_field.proofs.Table.{positive_of_prime}
 use Rattle.comm_ring.proofs.Modules.{Module, through, combination-map}
 use Rattle.comm_ring.proofs.Quotients.{quotient, origin_modulo, modulo_origin}
 use Rattle.fraction_laws.specs.Fractions.{Frac, InA, LocalTo, fraction_space, LocalIndependent}

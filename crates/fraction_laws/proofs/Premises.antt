@@ -9,7 +9,8 @@ use Rattle.comm_ring.specs.Modules.{ModuleOps, IsSubmodule, combine, combination
 use Rattle.comm_ring.specs.Ideals.{InIdeal}
 use Rattle.comm_ring.proofs.Derived as Derived
 use Rattle.comm_ring.proofs.Residues.{residues}
-use Rattle.comm_ring.proofs.Fields.{positive_of_prime, inverse, residue_coefficients}
+use Rattle.comm_ring.proofs.Fields.{inverse, residue_coefficients}
+use Rattle.prime_field.proofs.Table.{positive_of_prime}
 use Rattle.comm_ring.proofs.Ideals as Ideals
 use Rattle.comm_ring.proofs.Modules.{Module, through}
 use Rattle.comm_ring.proofs.Quotients.{quotient}

@@ -7,7 +7,7 @@ use Rattle.comm_ring.specs.Residues.{residue_ops}
 use Rattle.comm_ring.specs.Modules.{Dimension}
 use Rattle.comm_ring.specs.Ideals.{InIdeal}
 use Rattle.comm_ring.proofs.Residues.{residues}
-use Rattle.comm_ring.proofs.Fields.{positive_of_prime}
+use Rattle.prime_field.proofs.Table.{positive_of_prime}
 use Rattle.comm_ring.proofs.Derived as Derived
 use Rattle.comm_ring.proofs.Ideals as Ideals
 use Rattle.fraction_laws.specs.Fractions.{Regular}

@@ -16,8 +16,10 @@ use Rattle.graded_modules.specs.Bases.{AreApart, IsBasisBelow, HasAllLeads, Span
 use Rattle.graded_modules.specs.Laws.{BasisLaws}
 use Rattle.graded_modules.proofs.Graded.{lead_graded, degree_times}
 use Rattle.graded_modules.proofs.Members.{in_none, in_add, in_product, in_vector, in_larger}
-use Rattle.graded_modules.proofs.Cofactors.{same_shape, divides_trans, divides_both, divides_same, divides_degree, lcm_comm}
-use Rattle.graded_modules.proofs.SVectors.{positive, swap_settled, self_settled, same_degrees}
+use Rattle.graded_modules.proofs.Cofactors.{same_shape, divides_same, divides_degree, lcm_comm}
+use Rattle.monomials.proofs.Factors.{divides_trans, divides_both}
+use Rattle.graded_modules.proofs.SVectors.{swap_settled, self_settled, same_degrees}
+use Rattle.prime_field.proofs.Table.{positive_of_prime}
 use Rattle.graded_modules.proofs.Descent.{IsSummand, value, lead_of_total}
 use Rattle.graded_modules.proofs.Parts.{part, part_head, member_part}
 
@@ -52,7 +54,7 @@ apart_same bs h f g a b d = go (pair_of (λ f g. (Divides (lead_mono f) (lead_mo
 
 module _ (p n shift : ℕ) (gs : List (List Term)) (prime : IsPrime p) (given : All (IsGenerator p n shift) gs) where
   pos : 0 < p
-  pos = positive p prime
+  pos = positive_of_prime p prime
 
   given_vectors : All (IsGradedVector p n) gs
   given_vectors = All-weaker (IsGenerator p n shift) (IsGradedVector p n) (λ f h. h.vector) gs given

@@ -3,7 +3,7 @@ use Rattle.std.proofs.Common.{◌≡◌, ℕ, ◌+◌, ◌-◌, ◌*◌, ◌≤�
 use Rattle.monomials.specs.Mono.{Monomial, pointwise, times, common_multiple, total_degree, Divides}
 use Rattle.monomials.specs.Laws.{SameLength}
 use Rattle.monomials.proofs.Exponents.{plus, pointwise_comm, total_degree_le}
-use Rattle.monomials.proofs.Factors.{lcm_law, divides_law}
+use Rattle.monomials.proofs.Factors.{lcm_law, divides_law, divides_trans}
 use Rattle.monomials.proofs.Order.{times_comm, times_assoc, times_cancel}
 use Rattle.polys.specs.Poly.{IsPlain}
 use Rattle.polys.proofs.Units.{seven_times}
@@ -44,9 +44,6 @@ lcm_comm a b e =
 
 pub divides_by : (n : ℕ) (a c : Monomial) → IsGraded n a → IsGraded n c → IsPlain c → Divides a (times a c)
 divides_by n a c h k z = (divides_law a (times a c) (h.seven ∙ sym (seven_times a c h.seven k.seven))).1 (c, same_shape n a c h k, z, refl)
-
-pub divides_trans : (a b c : Monomial) → Divides a b → Divides b c → Divides a c
-divides_trans a b c h k = record { same = h.same ∙ k.same; none_greater = λ i. let x = h.none_greater i in let y = k.none_greater i in omega arith }
 
 -- the factor of a product is the cofactor
 pub cofactor_times : (n : ℕ) (a c : Monomial) → IsGraded n a → IsGraded n c → IsGraded n (times a c) → IsPlain c → cofactor a (times a c) ≡ c
@@ -92,9 +89,6 @@ divides_same shift a b e d l =
     let x = same_exponents a.exponents b.exponents e d.none_greater (omega arith) in
     let c = d.same in
     λ i. record { exponents = x i; component = c i }
-
-pub divides_both : (a b : Monomial) → SameLength a b → Divides a b → Divides b a → a ≡ b
-divides_both a b e d k = divides_same 0 a b e d (divides_degree 0 b a k)
 
 pub lcm_left : (n : ℕ) (a b : Monomial) → IsGraded n a → IsGraded n b → a.component ≡ b.component → Divides a (common_multiple a b)
 lcm_left n a b h k s = lcm_law.left a b (same_shape n a b h k) s

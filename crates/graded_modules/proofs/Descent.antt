@@ -6,12 +6,11 @@ use Rattle.std.proofs.lemmas.List.Elements.{All-nil, All-cons, All-head, All-tai
 use Rattle.std.specs.declared.cmp.Ordering.{Ordering}
 use Rattle.std.specs.declared.cmp.Ordering.TheVariants.{Less, Equal, Greater}
 use Rattle.monomials.specs.Mono.{Monomial, times, cmp_dp, Divides}
-use Rattle.monomials.proofs.Order.{same_dp, dp_total, cmp_dp-times}
+use Rattle.monomials.proofs.Order.{same_dp, dp_total, cmp_dp-times, turn_down}
 use Rattle.monomials.proofs.Factors.{lcm_law}
 use Rattle.prime_field.specs.Primes.{IsPrime}
 use Rattle.polys.specs.declared.term.Term.{Term}
 use Rattle.polys.specs.Terms.{EachMono, IsMonic, normal, add, sub, mul, multiple, products}
-use Rattle.polys.proofs.Weights.{turn_down}
 use Rattle.polys.proofs.Sums.{add_comm, add_assoc, add_medial}
 use Rattle.polys.proofs.Each.{every_normal, every_products, every_zip, every_more, every_add}
 use Rattle.polys.proofs.Leads.{Seven}
@@ -21,10 +20,12 @@ use Rattle.graded_modules.specs.Module.{IsLeadMultiple}
 use Rattle.graded_modules.specs.SVector.{cofactor, raised, lead_lcm, Multiple, total, top, IsBelow, IsSumBelow, IsSettled}
 use Rattle.graded_modules.proofs.Graded.{graded_times, lead_graded, each_seven}
 use Rattle.graded_modules.proofs.Cofactors.{same_shape, cofactor_times, divides_by, divides_degree}
-use Rattle.graded_modules.proofs.Sums.{sub_times, multiple_term, mul_two}
+use Rattle.polys.proofs.Multiples.{multiple_term, mul_two}
+use Rattle.polys.proofs.Differences.{sub_times}
 use Rattle.graded_modules.proofs.Multiples.{normal-total, total-append, below_multiple}
 use Rattle.graded_modules.proofs.Tops.{Lower, tail_below, product_is, product_below, lead_of_sum}
-use Rattle.graded_modules.proofs.SVectors.{positive, lifted}
+use Rattle.graded_modules.proofs.SVectors.{lifted}
+use Rattle.prime_field.proofs.Table.{positive_of_prime}
 use Rattle.graded_modules.proofs.Ranks.{rank, rank_rises}
 
 -- a multiple of a member of bs by a term, of the degree e
@@ -79,7 +80,7 @@ module _ (p n shift : ℕ) (bs : List (List Term)) (e : ℕ) where
   module _ (prime : IsPrime p) (vectors : All (IsGenerator p n shift) bs) (monic : All IsMonic bs)
       (settled : (b c : List Term) → Contains bs b → Contains bs c → (lead_mono b).component ≡ (lead_mono c).component → degree_at shift (lead_lcm b c) ≤ e → IsSettled p n shift bs b c) where
     pos : 0 < p
-    pos = positive p prime
+    pos = positive_of_prime p prime
 
     lead_g : (b : List Term) → Contains bs b → IsGraded n (lead_mono b)
     lead_g b c = lead_graded n b (All-contains (IsGenerator p n shift) bs b vectors c).vector.graded

@@ -6,7 +6,8 @@ use Rattle.polys.specs.declared.term.Term.{Term}
 use Rattle.polys.specs.Terms.{EachMono, OnlyFirst, normal, add, sub, multiple, scaled, mul, products, one}
 use Rattle.polys.specs.Poly.{IsPlain}
 use Rattle.polys.proofs.Weights.{is_canonical, normal_canon}
-use Rattle.polys.proofs.Each.{every_normal, every_add, every_multiple, every_more, every_products}
+use Rattle.polys.proofs.Each.{every_normal, every_add, every_multiple, every_more, every_products, every_zip}
+use Rattle.polys.proofs.Affine.{only_zeros}
 use Rattle.polys.proofs.Units.{plain_times, canonical_one}
 use Rattle.polys.proofs.Leads.{Seven}
 use Rattle.graded_modules.specs.Vector.{IsGraded, IsGradedVector, IsFactor, degree_at, lead_mono}
@@ -32,11 +33,6 @@ pub graded_times : (n : ℕ) (a b : Monomial) → IsGraded n a → IsGraded n b 
 graded_times n a b h k z =
     let s : a.component + b.component ≤ 1 = let t = h.two in omega arith in
     graded_pointwise (λ x y. x + y) (λ x y p q. omega arith) n (a.component + b.component) a b s h k
-
-only_zeros : (n k : ℕ) → OnlyFirst n (replicate k 0)
-only_zeros n zero = tt
-only_zeros zero (suc k) = (refl, only_zeros zero k)
-only_zeros (suc n) (suc k) = only_zeros n k
 
 pub graded_unit : (n : ℕ) → IsGraded n unit
 graded_unit n = record { seven = refl; first = only_zeros n 6; two = omega arith }
@@ -69,14 +65,10 @@ module _ (p n : ℕ) where
   pub vector_sub : (f g : List Term) → 0 < p → IsGradedVector p n f → IsGradedVector p n g → IsGradedVector p n (sub p f g)
   vector_sub f g h a b = vector_add f (multiple p (p - 1) g) h a (vector_multiple (p - 1) g h b)
 
-  graded_and_plain : (f : List Term) → EachMono (IsGraded n) f → EachMono IsPlain f → EachMono (λ m. IsGraded n m × IsPlain m) f
-  graded_and_plain [] h k = tt
-  graded_and_plain (t ∷ f) h k = ((h.0, k.0), graded_and_plain f h.1 k.1)
-
   -- a vector's product with a polynomial
   pub graded_products : (f a : List Term) → EachMono (IsGraded n) f → EachMono (IsGraded n) a → EachMono IsPlain a → EachMono (IsGraded n) (products f a)
   graded_products f a h k z =
-      every_products (IsGraded n) (λ m. IsGraded n m × IsPlain m) (IsGraded n) f a (λ m w x y. graded_times n m w x y.0 y.1) h (graded_and_plain a k z)
+      every_products (IsGraded n) (λ m. IsGraded n m × IsPlain m) (IsGraded n) f a (λ m w x y. graded_times n m w x y.0 y.1) h (every_zip (IsGraded n) IsPlain a k z)
 
   pub vector_mul : (f a : List Term) → 0 < p → EachMono (IsGraded n) f → EachMono (IsGraded n) a → EachMono IsPlain a → IsGradedVector p n (mul p f a)
   vector_mul f a h k l z = vector_normal (products f a) h (graded_products f a k l z)

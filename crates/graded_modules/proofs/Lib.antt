@@ -10,5 +10,4 @@ pub mod Ranks
 pub mod Reduced
 pub mod SVectors
 pub mod Settled
-pub mod Sums
 pub mod Tops

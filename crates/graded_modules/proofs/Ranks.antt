@@ -5,33 +5,15 @@ use Rattle.std.specs.declared.cmp.Ordering.TheVariants.{Less, Equal, Greater}
 use Rattle.std.specs.Ordering.{ordering_then, nat_cmp}
 use Rattle.std.specs.Cmp.{nat_cmp_is, ranked}
 use Rattle.monomials.specs.Mono.{Monomial, total_degree, cmp_last, cmp_dp}
+use Rattle.monomials.proofs.Exponents.{total_degree-push}
+use Rattle.monomials.proofs.Last.{cmp_last-push}
+use Rattle.monomials.proofs.Order.{same_last}
 use Rattle.graded_modules.specs.Vector.{IsGraded, degree_at}
 
 -- the last entry counts most, and the smaller entry is greater
 unfoldable pub rank_last : ℕ → List ℕ → ℕ
 rank_last e [] = 0
 rank_last e (x ∷ a) = suc e * rank_last e a + (e - x)
-
-then_right : (r : Ordering) → r ≡ ordering_then r Equal
-then_right Less = refl
-then_right Equal = refl
-then_right Greater = refl
-
-then_assoc : (r s t : Ordering) → ordering_then (ordering_then r s) t ≡ ordering_then r (ordering_then s t)
-then_assoc Less s t = refl
-then_assoc Equal s t = refl
-then_assoc Greater s t = refl
-
-same_last : (a b : List ℕ) → cmp_last a b ≡ Equal → a ≡ b
-same_last [] [] e = refl
-same_last [] (y ∷ b) e = absurd (cc)
-same_last (x ∷ a) [] e = absurd (cc)
-same_last (x ∷ a) (y ∷ b) e = go (cmp_last a b) refl e (same_last a b)
-  where
-    go : (r : Ordering) → cmp_last a b ≡ r → ordering_then r (nat_cmp y x) ≡ Equal → (cmp_last a b ≡ Equal → a ≡ b) → x ∷ a ≡ y ∷ b
-    go Less q h ih = absurd (cc)
-    go Greater q h ih = absurd (cc)
-    go Equal q h ih = let s : y ≡ x = ranked y x Equal (sym h) in λ i. sym s i ∷ ih q i
 
 rises : (e : ℕ) (a b : List ℕ) → length a ≡ length b → total_degree a ≤ e → total_degree b ≤ e → cmp_last a b ≡ Less → rank_last e a < rank_last e b
 unfolding rank_last
@@ -56,17 +38,6 @@ rises e (x ∷ a) (y ∷ b) l h k c = go (cmp_last a b) refl c (rises e a b (ome
 pub rank : ℕ → Monomial → ℕ
 rank e m = rank_last (suc e) (m.exponents ++ m.component ∷ [])
 
-last-push : (a b : List ℕ) (c d : ℕ) → length a ≡ length b → cmp_last (a ++ c ∷ []) (b ++ d ∷ []) ≡ ordering_then (nat_cmp d c) (cmp_last a b)
-last-push [] [] c d l = then_right (nat_cmp d c)
-last-push [] (y ∷ b) c d l = absurd (omega arith)
-last-push (x ∷ a) [] c d l = absurd (omega arith)
-last-push (x ∷ a) (y ∷ b) c d l =
-    (λ i. ordering_then (last-push a b c d (omega arith) i) (nat_cmp y x)) ∙ then_assoc (nat_cmp d c) (cmp_last a b) (nat_cmp y x)
-
-total_degree-push : (a : List ℕ) (c : ℕ) → total_degree (a ++ c ∷ []) ≡ total_degree a + c
-total_degree-push [] c = omega arith
-total_degree-push (x ∷ a) c = omega (arith, total_degree-push a c)
-
 length-push : (a : List ℕ) (c : ℕ) → length (a ++ c ∷ []) ≡ suc (length a)
 length-push [] c = refl
 length-push (x ∷ a) c = ap (λ (n : ℕ). suc n) (length-push a c)
@@ -77,7 +48,7 @@ rank_rises n shift e m w gm gw dm dw c =
     rises (suc e) (m.exponents ++ m.component ∷ []) (w.exponents ++ w.component ∷ [])
     (length-push m.exponents m.component ∙ ap (λ (k : ℕ). suc k) (gm.seven ∙ sym gw.seven) ∙ sym (length-push w.exponents w.component))
     (small m gm dm) (small w gw dw)
-    (last-push m.exponents w.exponents m.component w.component (gm.seven ∙ sym gw.seven) ∙ go (nat_cmp w.component m.component) refl c)
+    (cmp_last-push m.exponents w.exponents m.component w.component (gm.seven ∙ sym gw.seven) ∙ go (nat_cmp w.component m.component) refl c)
   where
     small : (v : Monomial) → IsGraded n v → degree_at shift v ≡ e → total_degree (v.exponents ++ v.component ∷ []) ≤ suc e
     small v g d = let t = g.two in omega (arith, total_degree-push v.exponents v.component)

@@ -20,11 +20,12 @@ use Rattle.graded_modules.specs.Bases.{AreApart, HasAllLeads, SpanOneModule}
 use Rattle.graded_modules.specs.Laws.{ReducedByLeads, RemainderIsNormal}
 use Rattle.graded_modules.proofs.Graded.{each_seven, lead_graded}
 use Rattle.graded_modules.proofs.Members.{in_none, in_add, in_sub, in_product, in_generator, in_vector, in_larger}
-use Rattle.graded_modules.proofs.Cofactors.{same_shape, graded_cofactor, times_cofactor, divides_trans, divides_both}
-use Rattle.graded_modules.proofs.Sums.{from_sub, to_sub, sub_cons}
-use Rattle.graded_modules.proofs.Settled.{sub_none}
+use Rattle.graded_modules.proofs.Cofactors.{same_shape, graded_cofactor, times_cofactor}
+use Rattle.monomials.proofs.Factors.{divides_trans, divides_both}
+use Rattle.polys.proofs.Differences.{from_sub, to_sub, sub_cons, sub_none}
 use Rattle.graded_modules.proofs.Tops.{Lower, tail_below, product_is, product_below}
-use Rattle.graded_modules.proofs.SVectors.{positive, above_one, product_degree}
+use Rattle.graded_modules.proofs.SVectors.{product_degree}
+use Rattle.prime_field.proofs.Table.{positive_of_prime, above_one}
 use Rattle.graded_modules.proofs.Ranks.{rank, rank_rises}
 use Rattle.graded_modules.proofs.Bases.{apart_same}
 
@@ -51,7 +52,7 @@ listed_lead ((t ∷ f) ∷ qs) a m c = go (listed_lead qs (All-tail IsMonic (t �
 module _ (p n shift : ℕ) (gs qs : List (List Term)) (prime : IsPrime p) (given : All (IsGenerator p n shift) gs) (known : HasAllLeads p n gs qs)
     (members : All (InModule p n gs) qs) (vectors : All (IsGenerator p n shift) qs) (monic : All IsMonic qs) where
   pos : 0 < p
-  pos = positive p prime
+  pos = positive_of_prime p prime
 
   given_vectors : All (IsGradedVector p n) gs
   given_vectors = All-weaker (IsGenerator p n shift) (IsGradedVector p n) (λ f h. h.vector) gs given
@@ -190,7 +191,7 @@ normal_law p n shift qs v r prime h hv hr member low = record {
 }
   where
     pos : 0 < p
-    pos = positive p prime
+    pos = positive_of_prime p prime
 
     outside : (m : Monomial) → Contains (map (λ t. t.mono) r) m → IsLead p n qs m → ⊥
     outside m c l = low m c (h.all_leads m l)

@@ -6,6 +6,7 @@ use Rattle.std.specs.declared.cmp.Ordering.TheVariants.{Less}
 use Rattle.monomials.specs.Mono.{Monomial, times, cmp_dp, Divides}
 use Rattle.monomials.proofs.Factors.{lcm_law}
 use Rattle.prime_field.specs.Primes.{IsPrime}
+use Rattle.prime_field.proofs.Table.{positive_of_prime, above_one}
 use Rattle.polys.specs.declared.term.Term.{Term}
 use Rattle.polys.specs.Terms.{EachMono, IsMonic, sub, mul, multiple, products}
 use Rattle.polys.proofs.Units.{sub_self}
@@ -18,15 +19,10 @@ use Rattle.graded_modules.specs.Laws.{ArePaired, SVectorLaws}
 use Rattle.graded_modules.proofs.Graded.{degree_times, lead_graded, each_seven, vector_mul, vector_sub}
 use Rattle.graded_modules.proofs.Members.{in_product, in_sub}
 use Rattle.graded_modules.proofs.Cofactors.{same_shape, cofactor_steps, graded_cofactor, graded_lcm, times_cofactor, lcm_left, lcm_right, lcm_comm}
-use Rattle.graded_modules.proofs.Sums.{sub_cons, mul_terms, sub_chain, sub_swap, sub_by}
+use Rattle.polys.proofs.Multiples.{mul_terms}
+use Rattle.polys.proofs.Differences.{sub_cons, sub_chain, sub_swap, sub_by}
 use Rattle.graded_modules.proofs.Multiples.{below_none, below_add, below_multiple, below_mul}
 use Rattle.graded_modules.proofs.Tops.{Lower, product_is, product_below}
-
-pub positive : (p : ℕ) → IsPrime p → 0 < p
-positive p prime = let h = prime.0 in omega arith
-
-pub above_one : (p : ℕ) → IsPrime p → 1 < p
-above_one p prime = let h = prime.0 in omega arith
 
 -- ---- raised vectors
 
@@ -90,7 +86,7 @@ module _ (p n shift : ℕ) where
 
   s_is_vector : (f g : List Term) → ArePaired p n shift f g → IsGradedVector p n (s_vector p f g)
   s_is_vector f g a =
-      let pos = positive p a.prime in
+      let pos = positive_of_prime p a.prime in
       let m = lead_lcm f g in
       vector_sub p n (raised p f m) (raised p g m) pos (raised_vector f m pos a.first (lcm_graded f g a)) (raised_vector g m pos a.second (lcm_graded f g a))
 
@@ -144,7 +140,7 @@ module _ (p n shift : ℕ) where
       let x = raised_is f m prime hf mf gm df in
       let y = raised_is g m prime hg mg gm dg in
       let one : Term = record { coeff = 1; mono = m } in
-      let drops : sub p (raised p f m) (raised p g m) ≡ sub p x.0 y.0 = (λ i. sub p (x.1 i) (y.1 i)) ∙ sub_cons p one x.0 y.0 (positive p prime) in
+      let drops : sub p (raised p f m) (raised p g m) ≡ sub p x.0 y.0 = (λ i. sub p (x.1 i) (y.1 i)) ∙ sub_cons p one x.0 y.0 (positive_of_prime p prime) in
       subst (EachMono (Lower m)) (sym drops) (every_add (Lower m) p x.0 (multiple p (p - 1) y.0) x.2 (every_multiple (Lower m) p (p - 1) y.0 y.2))
 
   s_below : (f g : List Term) → ArePaired p n shift f g → EachMono (λ m. cmp_dp m (lead_lcm f g) ≡ Less) (s_vector p f g)
@@ -155,7 +151,7 @@ module _ (p n shift : ℕ) where
 
   s_member : (gs : List (List Term)) (f g : List Term) → ArePaired p n shift f g → InModule p n gs f → InModule p n gs g → InModule p n gs (s_vector p f g)
   s_member gs f g a x y =
-      let pos = positive p a.prime in
+      let pos = positive_of_prime p a.prime in
       let m = lead_lcm f g in
       let gm = lcm_graded f g a in
       in_sub p n gs (raised p f m) (raised p g m) pos

@@ -10,7 +10,7 @@ use Rattle.prime_field.specs.Primes.{IsPrime}
 use Rattle.polys.specs.declared.term.Term.{Term}
 use Rattle.polys.specs.Terms.{IsCanonical, EachMono, IsMonic, IsMonicOf, normal, add, sub, mul, multiple, products, scaled}
 use Rattle.polys.specs.Poly.{IsPlain}
-use Rattle.polys.proofs.Sums.{normal_normal, add_comm, add_assoc, add_normal_right, mul_comm, mul_zero}
+use Rattle.polys.proofs.Sums.{normal_normal, add_comm, add_assoc, add_normal_right, mul_comm, mul_none}
 use Rattle.polys.proofs.Units.{canonical_same}
 use Rattle.polys.proofs.Each.{every_scaled, every_normal}
 use Rattle.polys.proofs.Products.{times_residue, multiple_by_residue, mul-append}
@@ -19,18 +19,17 @@ use Rattle.graded_modules.specs.SVector.{cofactor, raised, lead_lcm, s_vector, M
 use Rattle.graded_modules.specs.Laws.{ArePaired, SettledLaws}
 use Rattle.graded_modules.proofs.Graded.{graded_times, graded_unit, degree_times, lead_graded, each_seven}
 use Rattle.graded_modules.proofs.Cofactors.{cofactor_times}
-use Rattle.graded_modules.proofs.Sums.{from_sub, to_sub, mul_number, multiple_multiple, multiple_residue, multiple_one, multiple_zero}
+use Rattle.polys.proofs.Multiples.{mul_number, multiple_multiple, multiple_residue, multiple_one, multiple_zero}
+use Rattle.polys.proofs.Differences.{from_sub, to_sub, sub_none}
 use Rattle.graded_modules.proofs.Multiples.{below_more, below_add, below_multiple}
 use Rattle.graded_modules.proofs.Tops.{Lower, tail_below}
-use Rattle.graded_modules.proofs.SVectors.{positive, above_one, swap_settled, chain_settled, same_degrees}
+use Rattle.graded_modules.proofs.SVectors.{swap_settled, chain_settled, same_degrees}
+use Rattle.prime_field.proofs.Table.{positive_of_prime, above_one}
 
 -- ---- a division
 
-pub sub_none : (p : ℕ) (f : List Term) → 0 < p → sub p f [] ≡ normal p f
-sub_none p f h = to_sub p f [] f h refl
-
 -- the inverse of the number that made r monic is its lead's coefficient
-unscaled : (p c : ℕ) (t : Term) (r b : List Term) → IsPrime p → c < p → IsCanonical p (t ∷ r) → IsMonic b → b ≡ multiple p c (t ∷ r)
+pub unscaled : (p c : ℕ) (t : Term) (r b : List Term) → IsPrime p → c < p → IsCanonical p (t ∷ r) → IsMonic b → b ≡ multiple p c (t ∷ r)
     → ((t.coeff * c) % p ≡ 1) × (lead_mono b ≡ t.mono)
 unscaled p zero t r b prime l k monic e = absurd (subst IsMonic (e ∙ multiple_zero p (t ∷ r)) monic)
 unscaled p (suc c) t r b prime l k monic e =
@@ -41,7 +40,7 @@ unscaled p (suc c) t r b prime l k monic e =
 
 module _ (p n shift : ℕ) where
   nothing_left : (bs : List (List Term)) (m : Monomial) (f : List Term) → IsPrime p → IsGradedVector p n f → IsSumBelow p n shift bs m (sub p f []) → IsSumBelow p n shift bs m f
-  nothing_left bs m f prime h a = subst (IsSumBelow p n shift bs m) (sub_none p f (positive p prime) ∙ canonical_same p f h.canonical) a
+  nothing_left bs m f prime h a = subst (IsSumBelow p n shift bs m) (sub_none p f (positive_of_prime p prime) ∙ canonical_same p f h.canonical) a
 
   -- one multiple alone
   one_below : (bs : List (List Term)) (m : Monomial) (s : Multiple) → IsBelow p n shift bs m s → IsSumBelow p n shift bs m (mul p s.vector (s.term ∷ []))
@@ -56,7 +55,7 @@ module _ (p n shift : ℕ) where
       → IsSumBelow p n shift bs m (sub p f r) → IsSumBelow p n shift (bs ++ b ∷ []) m f
   remainder bs m f [] b prime hf hr some low deg monic a = absurd (some refl)
   remainder bs m f (t ∷ r) b prime hf hr some low deg monic a =
-      let pos = positive p prime in
+      let pos = positive_of_prime p prime in
       let c = monic.1.0 in
       let back = unscaled p c t r b prime monic.1.1 hr.canonical monic.0 monic.1.2 in
       let s : Multiple = record { vector = b; term = record { coeff = t.coeff; mono = unit } } in
@@ -116,7 +115,7 @@ cancel p x w a h e =
 module _ (p n shift : ℕ) (bs : List (List Term)) where
   products_below : (g f : List Term) (u : Monomial) → Contains bs g → IsGraded n u → IsGraded n (lead_mono g) → IsCanonical p f → EachMono (IsGraded n) f → EachMono IsPlain f
       → EachMono (Lower u) f → HasDegree shift (degree_at shift u) f → IsSumBelow p n shift bs (times (lead_mono g) u) (mul p g f)
-  products_below g [] u c gu gg k a z l d = record { multiples = []; each = All-nil (IsBelow p n shift bs (times (lead_mono g) u)); sum = mul_zero p g }
+  products_below g [] u c gu gg k a z l d = record { multiples = []; each = All-nil (IsBelow p n shift bs (times (lead_mono g) u)); sum = mul_none p g }
   products_below g (t ∷ f) u c gu gg k a z l d =
       let m = times (lead_mono g) u in
       let s : Multiple = record { vector = g; term = t } in
@@ -145,7 +144,7 @@ module _ (p n shift : ℕ) (bs : List (List Term)) where
       (products_below (u ∷ f) g v.mono cf hv hu a.second.vector.canonical.3 a.second.vector.graded.1 zg.1 (tail_below p v g a.second.vector.canonical) (same_degrees p n shift (v ∷ g) a.second).1))))
     where
       pos : 0 < p
-      pos = positive p a.prime
+      pos = positive_of_prime p a.prime
 
       m : Monomial
       m = lead_lcm (u ∷ f) (v ∷ g)
@@ -211,8 +210,8 @@ settled_law = record {
   nothing_left = nothing_left;
   remainder = remainder;
   chain = λ p n shift bs f g h v a b d x y.
-      chain_settled p n shift bs (positive p a.prime) v f g h (lead_graded n f a.first.vector.graded) (lead_graded n g a.second.vector.graded) (lead_graded n h b.second.vector.graded)
+      chain_settled p n shift bs (positive_of_prime p a.prime) v f g h (lead_graded n f a.first.vector.graded) (lead_graded n g a.second.vector.graded) (lead_graded n h b.second.vector.graded)
       a.one_component b.one_component d x y;
-  swapped = λ p n shift bs f g v a x. swap_settled p n shift bs (positive p a.prime) v f g a.one_component x;
+  swapped = λ p n shift bs f g v a x. swap_settled p n shift bs (positive_of_prime p a.prime) v f g a.one_component x;
   coprime = coprime;
 }

@@ -3,11 +3,11 @@ use Rattle.std.proofs.Common.{◌≡◌, ℕ, ◌<◌, List, [], ◌∷◌, ◌+
 use native.Mathlib.Nat.{mod-eq_of_lt}
 use Rattle.std.specs.declared.cmp.Ordering.TheVariants.{Less, Greater}
 use Rattle.monomials.specs.Mono.{Monomial, times, cmp_dp}
-use Rattle.monomials.proofs.Order.{cmp_dp-times}
+use Rattle.monomials.proofs.Order.{cmp_dp-times, turn_down, turn_up}
 use Rattle.prime_field.specs.Primes.{IsPrime}
 use Rattle.polys.specs.declared.term.Term.{Term}
 use Rattle.polys.specs.Terms.{IsCanonical, EachMono, Under, keep, normal, add, mul}
-use Rattle.polys.proofs.Weights.{turn_down, turn_up, canon}
+use Rattle.polys.proofs.Weights.{canon}
 use Rattle.polys.proofs.Each.{every_more, every_append, every_normal, every_under}
 use Rattle.polys.proofs.Leads.{Seven, every_low, put_above}
 use Rattle.polys.proofs.Products.{times_term, product_by_term}

@@ -50,19 +50,3 @@ contained_lead ((t ∷ f) ∷ ds) m c = go (contains_cases t.mono m (leads ds) c
         → (u : Term) × (g : List Term) × Contains ((t ∷ f) ∷ ds) (u ∷ g) × (u.mono ≡ m)
     go (inl e) ih = (t, f, contains_head (t ∷ f) ds, e)
     go (inr k) ih = let r = ih k in (r.0, r.1, contains_tail (t ∷ f) (r.0 ∷ r.1) ds r.2, r.3)
-
--- ---- divisors
-
-pub divides_chain : (a b c : Monomial) → Divides a b → Divides b c → Divides a c
-divides_chain a b c h k = record { same = h.same ∙ k.same; none_greater = λ i. (let x = h.none_greater i in let y = k.none_greater i in omega arith) }
-
-same_places : (a b : List ℕ) → length a ≡ length b → ((i : ℕ) → get_or a i 0 ≡ get_or b i 0) → a ≡ b
-same_places [] [] l h = refl
-same_places [] (y ∷ b) l h = absurd (omega arith)
-same_places (x ∷ a) [] l h = absurd (omega arith)
-same_places (x ∷ a) (y ∷ b) l h = let e : x ≡ y = h 0 in λ i. e i ∷ same_places a b (omega arith) (λ k. h (suc k)) i
-
-pub divides_both : (a b : Monomial) → length a.exponents ≡ length b.exponents → Divides a b → Divides b a → a ≡ b
-divides_both a b l h k =
-    let e = same_places a.exponents b.exponents l (λ i. (let x = h.none_greater i in let y = k.none_greater i in omega arith)) in
-    λ i. record { exponents = e i; component = h.same i }

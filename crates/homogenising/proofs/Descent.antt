@@ -6,21 +6,8 @@ use Rattle.std.specs.Ordering.{ordering_then, nat_cmp, MatchOrdering}
 use Rattle.std.specs.Cmp.{ranks, ranked}
 use Rattle.monomials.specs.Mono.{Monomial, total_degree, cmp_last, cmp_dp}
 use Rattle.monomials.proofs.Last.{by_degree, by_last}
+use Rattle.monomials.proofs.Order.{same_last}
 use Rattle.polys.specs.Poly.{IsPlain}
-
-both_equal : (r s : Ordering) → ordering_then r s ≡ Equal → (r ≡ Equal) × (s ≡ Equal)
-both_equal Less s e = absurd (cc)
-both_equal Equal s e = (refl, e)
-both_equal Greater s e = absurd (cc)
-
-same_last : (a b : List ℕ) → length a ≡ length b → cmp_last a b ≡ Equal → a ≡ b
-same_last [] [] l e = refl
-same_last [] (y ∷ b) l e = absurd (omega arith)
-same_last (x ∷ a) [] l e = absurd (omega arith)
-same_last (x ∷ a) (y ∷ b) l e =
-    let h = both_equal (cmp_last a b) (nat_cmp y x) e in
-    let q : y ≡ x = ranked y x Equal (sym h.1) in
-    λ i. sym q i ∷ same_last a b (omega arith) h.0 i
 
 -- no exponent is above E
 abbrev EachAtMost : ℕ → List ℕ → Type 0
@@ -48,7 +35,7 @@ below_place E k x P a l lower same (y ∷ b) t e = go (cmp_last b a) refl e
     go : (r : Ordering) → cmp_last b a ≡ r → ordering_then r (nat_cmp x y) ≡ Less → P (y ∷ b)
     go Less q c = lower b short q y t.each.0
     go Equal q c =
-        let s : b ≡ a = same_last b a (let n = t.as_many in omega arith) q in
+        let s : b ≡ a = same_last b a q in
         let above : x < y = ranked x y Less (sym c) in
         subst (λ w. P (y ∷ w)) (sym s) (same y above t.each.0)
     go Greater q c = absurd (cc)

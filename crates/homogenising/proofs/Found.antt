@@ -9,8 +9,9 @@ use Rattle.std.specs.List.{Contains}
 use Rattle.std.proofs.lemmas.List.Elements.{All-contains}
 use Rattle.monomials.specs.Mono.{Monomial, total_degree, times, Divides}
 use Rattle.monomials.proofs.Exponents.{total_degree-plus}
-use Rattle.monomials.proofs.Factors.{divides_law}
+use Rattle.monomials.proofs.Factors.{divides_law, divides_trans}
 use Rattle.prime_field.specs.Primes.{IsPrime}
+use Rattle.prime_field.proofs.Table.{positive_of_prime}
 use Rattle.polys.specs.declared.term.Term.{Term}
 use Rattle.polys.specs.Terms.{IsPoly}
 use Rattle.polys.specs.Ideal.{InIdeal}
@@ -20,7 +21,7 @@ use Rattle.polys.proofs.Unique.{contains_head, contains_tail, contains_cases, co
 use Rattle.graded_modules.specs.Vector.{lead_mono}
 use Rattle.graded_modules.specs.Module.{IsLeadMultiple}
 use Rattle.homogenising.specs.Laws.{ReducedHasLeads}
-use Rattle.homogenising.proofs.Apart.{contained_lead, divides_chain}
+use Rattle.homogenising.proofs.Apart.{contained_lead}
 use Rattle.homogenising.proofs.Places.{plus}
 
 -- ---- deciding divisibility
@@ -109,7 +110,7 @@ same_or_lower w m l d = go (total_degree r.0.exponents) refl
 module _ (p n : ℕ) (ds : List (List Term)) (prime : IsPrime p) (red : Reduced p n ds) where
   seven : (m : Monomial) → IsLead p n ds m → length m.exponents ≡ 7
   seven m (t, f, r, e) =
-      let pos : 0 < p = (let two = prime.0 in omega arith) in
+      let pos = positive_of_prime p prime in
       ap (λ (w : Monomial). length w.exponents) (sym e) ∙ (in_poly p n ds (t ∷ f) pos red.polys r).affine.0.seven
 
   -- where no minimal lead divides it, a monomial is no lead
@@ -120,7 +121,7 @@ module _ (p n : ℕ) (ds : List (List Term)) (prime : IsPrime p) (red : Reduced 
       pick : (w : Monomial) → IsLead p n ds w → Divides w m → (w ≡ m) ⊎ (total_degree w.exponents < total_degree m.exponents)
           → ((m : Monomial) → total_degree m.exponents < D → IsLead p n ds m → ((w : Monomial) → IsMinimalLead p n ds w → Divides w m → ⊥) → ⊥) → w ≡ m
       pick w k d (inl e) ih = e
-      pick w k d (inr g) ih = absurd (ih w (omega arith) k (λ x y z. away x y (divides_chain x w m z d)))
+      pick w k d (inr g) ih = absurd (ih w (omega arith) k (λ x y z. away x y (divides_trans x w m z d)))
 
   plain_lead : (b : List Term) → Contains ds b → (lead_mono b).component ≡ 0
   plain_lead b c = go b (All-contains (IsPoly p n) ds b red.polys c)
@@ -134,7 +135,7 @@ module _ (p n : ℕ) (ds : List (List Term)) (prime : IsPrime p) (red : Reduced 
     where
       plain : t.mono.component ≡ 0
       plain =
-          let pos : 0 < p = (let two = prime.0 in omega arith) in
+          let pos = positive_of_prime p prime in
           (in_poly p n ds (t ∷ f) pos red.polys r).affine.0.plain
 
       away : ((b : List Term) → Contains ds b → Divides (lead_mono b) t.mono → ⊥) → (w : Monomial) → IsMinimalLead p n ds w → Divides w t.mono → ⊥

@@ -1,13 +1,13 @@
 -- What lifting to a degree and setting the homogenising variable to 1 do to monomials.
 use Rattle.std.proofs.Common.{◌≡◌, ℕ, ◌+◌, ◌-◌, ◌≤◌, List, [], ◌∷◌, length, sym, ap, ◌∙◌, subst, arith}
 use Rattle.monomials.specs.Mono.{Monomial, total_degree, times, cmp_dp, Divides}
-use Rattle.monomials.proofs.Exponents.{total_degree-plus}
+use Rattle.monomials.proofs.Exponents.{total_degree-plus, total_degree-push}
 use Rattle.monomials.proofs.Factors.{divides_law}
 use Rattle.polys.specs.Terms.{IsAffine}
 use Rattle.polys.specs.Poly.{IsPlain}
 use Rattle.graded_modules.specs.Vector.{IsGraded}
 use Rattle.homogenising.specs.Homogenised.{with_hom}
-use Rattle.homogenising.proofs.Places.{degree_last, plus, plus_last}
+use Rattle.homogenising.proofs.Places.{plus, plus_last}
 use Rattle.homogenising.proofs.Order.{placed, lift, with-placed, lift-placed, lifted_order, flat_at, affine_of, graded_of, IsSteep, steep_at, seven_last, IsPlaced, placed_at}
 
 -- the homogenising variable becomes 1
@@ -18,7 +18,7 @@ module _ (n : ℕ) (six : n ≤ 6) where
   -- ---- of monomials of polynomials
 
   pub degree_flat : (a : List ℕ) → total_degree (placed a 0 0).exponents ≡ total_degree a
-  degree_flat a = degree_last a 0 ∙ (omega arith)
+  degree_flat a = total_degree-push a 0 ∙ (omega arith)
 
   pub lift_order : (K : ℕ) (a b : Monomial) → IsAffine n a → total_degree a.exponents ≤ K → IsAffine n b → total_degree b.exponents ≤ K
       → cmp_dp (lift K a) (lift K b) ≡ cmp_dp a b
@@ -53,7 +53,7 @@ module _ (n : ℕ) (six : n ≤ 6) where
       let f = flat_at n m six p in
       let d : total_degree m.exponents ≡ total_degree f.six = ap (λ (m : Monomial). total_degree m.exponents) f.is ∙ degree_flat f.six in
       ap (λ (m : Monomial). total_degree m.exponents) (ap (lift K) f.is ∙ lift-placed K f.six 0 f.as_many)
-      ∙ degree_last f.six (K - total_degree f.six)
+      ∙ total_degree-push f.six (K - total_degree f.six)
       ∙ (omega arith)
 
   -- ---- of monomials with the homogenising variable
@@ -67,7 +67,7 @@ module _ (n : ℕ) (six : n ≤ 6) where
   lower_placed m s = ap lower s.is ∙ with-placed s.six s.last 0 0 s.as_many
 
   degree_steep : (m : Monomial) (s : IsSteep n m) → total_degree m.exponents ≡ total_degree s.six + s.last
-  degree_steep m s = ap (λ (m : Monomial). total_degree m.exponents) s.is ∙ degree_last s.six s.last
+  degree_steep m s = ap (λ (m : Monomial). total_degree m.exponents) s.is ∙ total_degree-push s.six s.last
 
   pub degree_lower : (m : Monomial) → IsGraded n m → IsPlain m → total_degree (lower m).exponents ≤ total_degree m.exponents
   degree_lower m g p =

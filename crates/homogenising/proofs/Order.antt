@@ -8,7 +8,9 @@ use Rattle.monomials.specs.Mono.{Monomial, total_degree, cmp_last, cmp_dp}
 use Rattle.polys.specs.Terms.{OnlyFirst, IsAffine}
 use Rattle.graded_modules.specs.Vector.{IsGraded}
 use Rattle.homogenising.specs.Homogenised.{with_hom}
-use Rattle.homogenising.proofs.Places.{split_last, degree_last, set_last, take_last, only_last, only_with, cmp_last_first}
+use Rattle.homogenising.proofs.Places.{split_last, set_last, take_last, only_last, only_with}
+use Rattle.monomials.proofs.Last.{cmp_last-push}
+use Rattle.monomials.proofs.Exponents.{total_degree-push}
 
 -- the monomial with these exponents of the six variables and of the homogenising one
 abbrev pub placed : List ℕ → ℕ → ℕ → Monomial
@@ -38,7 +40,7 @@ with-placed a y c e l = λ i. record { exponents = set_six a y e l i; component 
 
 pub lift-placed : (K : ℕ) (a : List ℕ) (c : ℕ) → length a ≡ 6 → lift K (placed a 0 c) ≡ placed a (K - total_degree a) c
 lift-placed K a c l =
-    let d : total_degree (a ++ 0 ∷ []) ≡ total_degree a = degree_last a 0 ∙ (omega arith) in
+    let d : total_degree (a ++ 0 ∷ []) ≡ total_degree a = total_degree-push a 0 ∙ (omega arith) in
     with-placed a 0 c (K - total_degree (a ++ 0 ∷ [])) l ∙ (λ i. placed a (K - d i) c)
 
 turned : (K x y : ℕ) → x ≤ K → y ≤ K → nat_cmp (K - y) (K - x) ≡ nat_cmp x y
@@ -57,21 +59,21 @@ level x = sym (nat_cmp_is x x Equal refl)
 pub lifted_order : (K : ℕ) (a b : List ℕ) → length a ≡ length b → total_degree a ≤ K → total_degree b ≤ K
     → cmp_dp (placed a (K - total_degree a) 0) (placed b (K - total_degree b) 0) ≡ cmp_dp (placed a 0 0) (placed b 0 0)
 lifted_order K a b l h k =
-    (λ i. ordering_then (nat_cmp 0 0) (ordering_then (nat_cmp (da i) (db i)) (cmp_last_first a b (K - total_degree a) (K - total_degree b) l i)))
+    (λ i. ordering_then (nat_cmp 0 0) (ordering_then (nat_cmp (da i) (db i)) (cmp_last-push a b (K - total_degree a) (K - total_degree b) l i)))
     ∙ (λ i. ordering_then (nat_cmp 0 0) (ordering_then (level K i) (ordering_then (turned K (total_degree a) (total_degree b) h k i) (cmp_last a b))))
-    ∙ sym (λ i. ordering_then (nat_cmp 0 0) (ordering_then (nat_cmp (za i) (zb i)) (cmp_last_first a b 0 0 l i)))
+    ∙ sym (λ i. ordering_then (nat_cmp 0 0) (ordering_then (nat_cmp (za i) (zb i)) (cmp_last-push a b 0 0 l i)))
   where
     da : total_degree (a ++ (K - total_degree a) ∷ []) ≡ K
-    da = degree_last a (K - total_degree a) ∙ (omega arith)
+    da = total_degree-push a (K - total_degree a) ∙ (omega arith)
 
     db : total_degree (b ++ (K - total_degree b) ∷ []) ≡ K
-    db = degree_last b (K - total_degree b) ∙ (omega arith)
+    db = total_degree-push b (K - total_degree b) ∙ (omega arith)
 
     za : total_degree (a ++ 0 ∷ []) ≡ total_degree a
-    za = degree_last a 0 ∙ (omega arith)
+    za = total_degree-push a 0 ∙ (omega arith)
 
     zb : total_degree (b ++ 0 ∷ []) ≡ total_degree b
-    zb = degree_last b 0 ∙ (omega arith)
+    zb = total_degree-push b 0 ∙ (omega arith)
 
 -- ---- the monomials of polynomials
 

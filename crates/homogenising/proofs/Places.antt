@@ -15,10 +15,6 @@ split_last (suc k) (x ∷ e) h =
     let l = r.2 in
     (x ∷ r.0, r.1, (omega arith), λ i. x ∷ r.3 i)
 
-pub degree_last : (a : List ℕ) (y : ℕ) → total_degree (a ++ y ∷ []) ≡ total_degree a + y
-degree_last [] y = omega arith
-degree_last (x ∷ a) y = let h = degree_last a y in omega arith
-
 pub set_last : (a : List ℕ) (y e : ℕ) → set (a ++ y ∷ []) (length a) e ≡ a ++ e ∷ []
 set_last [] y e = refl
 set_last (x ∷ a) y e = λ i. x ∷ set_last a y e i
@@ -47,21 +43,3 @@ only_with zero [] h o = (refl, tt)
 only_with (suc n) [] h o = absurd (omega arith)
 only_with zero (x ∷ a) h o = (o.0, only_with zero a (omega arith) o.1)
 only_with (suc n) (x ∷ a) h o = only_with n a (omega arith) o
-
-then_assoc : (r s t : Ordering) → ordering_then (ordering_then r s) t ≡ ordering_then r (ordering_then s t)
-then_assoc Less s t = refl
-then_assoc Equal s t = refl
-then_assoc Greater s t = refl
-
-then_equal : (r : Ordering) → ordering_then Equal r ≡ ordering_then r Equal
-then_equal Less = refl
-then_equal Equal = refl
-then_equal Greater = refl
-
--- the last place decides first
-pub cmp_last_first : (a b : List ℕ) (x y : ℕ) → length a ≡ length b → cmp_last (a ++ x ∷ []) (b ++ y ∷ []) ≡ ordering_then (nat_cmp y x) (cmp_last a b)
-cmp_last_first [] [] x y h = then_equal (nat_cmp y x)
-cmp_last_first [] (w ∷ b) x y h = absurd (omega arith)
-cmp_last_first (z ∷ a) [] x y h = absurd (omega arith)
-cmp_last_first (z ∷ a) (w ∷ b) x y h =
-    (λ i. ordering_then (cmp_last_first a b x y (omega arith) i) (nat_cmp w z)) ∙ then_assoc (nat_cmp y x) (cmp_last a b) (nat_cmp w z)

@@ -6,9 +6,10 @@ use Rattle.std.proofs.lemmas.List.Elements.{All-nil, All-cons, All-head, All-tai
 use native.Mathlib.Nat.{mul-add-mod_self_left, mod-eq_of_lt}
 use Rattle.monomials.specs.Mono.{Monomial, pointwise, times, Divides, cmp_dp, total_degree}
 use Rattle.monomials.proofs.Exponents.{total_degree-plus}
-use Rattle.monomials.proofs.Factors.{divides_law}
-use Rattle.monomials.proofs.Order.{times_comm}
+use Rattle.monomials.proofs.Factors.{divides_law, divides_trans, divides_both}
+use Rattle.monomials.proofs.Order.{times_comm, turn_down}
 use Rattle.prime_field.specs.Primes.{IsPrime}
+use Rattle.prime_field.proofs.Table.{positive_of_prime, above_one}
 use Rattle.polys.specs.declared.term.Term.{Term}
 use Rattle.polys.specs.Terms.{EachMono, IsAffine, IsCanonical, IsPoly, IsMonic, OnlyFirst, add, sub, mul, multiple, scaled, degree_of}
 use Rattle.polys.specs.Ideal.{InIdeal, combination}
@@ -16,50 +17,18 @@ use Rattle.polys.specs.Reduced.{leads, lower_monos, IsLead, IsMinimalLead, IsRed
 use Rattle.polys.proofs.Affine.{poly_sub, poly_mul, sevens_of}
 use Rattle.polys.proofs.Each.{every_more, every_normal, every_append, every_multiple}
 use Rattle.polys.proofs.Unique.{contains_head}
+use Rattle.polys.proofs.Differences.{sub_cons, sub_add, add_sub, less_difference}
 use Rattle.polys.proofs.Ideals.{in_none, in_add, in_sub, in_mul, in_poly, in_generator}
 use Rattle.polys.proofs.Leads.{lead_of_mul, every_low}
 use Rattle.polys.proofs.Sums.{add_assoc, add_comm}
 use Rattle.polys.proofs.Units.{weigh-scaled, sub_self, add_none}
-use Rattle.polys.proofs.Weights.{canon, weigh, weigh-append, weigh-normal, normal_ext, mod_plus, turn_down}
+use Rattle.polys.proofs.Weights.{canon, weigh, weigh-append, weigh-normal, normal_ext, mod_plus}
 use Rattle.graded_modules.specs.Vector.{lead_mono}
 use Rattle.graded_modules.specs.Module.{IsLeadMultiple}
 use Rattle.graded_modules.specs.Bases.{AreApart}
 use Rattle.homogenising.specs.Laws.{ReducedByAffineLeads, RemainderDecides}
 use Rattle.homogenising.proofs.Descent.{Step, descent}
-use Rattle.homogenising.proofs.Apart.{apart_same, lead_contained, contained_lead, divides_chain, divides_both}
-
--- a term that both have drops out of a difference
-pub sub_cons : (p : ℕ) (t : Term) (f g : List Term) → 0 < p → sub p (t ∷ f) (t ∷ g) ≡ sub p f g
-unfolding weigh
-sub_cons zero t f g h = absurd (omega arith)
-sub_cons (suc k) t f g h =
-    normal_ext (suc k) ((t ∷ f) ++ multiple (suc k) (suc k - 1) (t ∷ g)) (f ++ multiple (suc k) (suc k - 1) g)
-    (λ χ. whole χ (t ∷ f) (t ∷ g) ∙ ap (λ (n : ℕ). n % suc k) (parts (t.coeff * χ t.mono) (weigh χ f) (weigh χ g))
-    ∙ mul-add-mod_self_left (suc k) (t.coeff * χ t.mono) (weigh χ f + k * weigh χ g) ∙ sym (whole χ f g))
-  where
-    whole : (χ : Monomial → ℕ) (f g : List Term) → weigh χ (f ++ multiple (suc k) (suc k - 1) g) % suc k ≡ (weigh χ f + k * weigh χ g) % suc k
-    whole χ f g =
-        ap (λ (n : ℕ). n % suc k) (weigh-append χ f (multiple (suc k) (suc k - 1) g))
-        ∙ mod_plus (suc k) (weigh χ f) (weigh χ f) (weigh χ (multiple (suc k) (suc k - 1) g)) (k * weigh χ g) refl
-        (weigh-normal (suc k) χ (scaled (suc k - 1) g) ∙ ap (λ (n : ℕ). n % suc k) (weigh-scaled χ (suc k - 1) g ∙ (let e : suc k - 1 ≡ k = omega arith in ap (λ (n : ℕ). n * weigh χ g) e)))
-
-    parts : (c x y : ℕ) → (c + x) + k * (c + y) ≡ suc k * c + (x + k * y)
-    parts c x y = omega arith
-
--- what is taken away and added again
-pub sub_add : (p : ℕ) (f g : List Term) → 0 < p → IsCanonical p f → add p (sub p f g) g ≡ f
-sub_add p f g h c =
-    add_assoc p f (multiple p (p - 1) g) g
-    ∙ ap (add p f) (add_comm p (multiple p (p - 1) g) g ∙ sub_self p g h)
-    ∙ add_none p f c
-
--- what is added and taken away again
-pub add_sub : (p : ℕ) (f g : List Term) → 0 < p → IsCanonical p f → sub p (add p f g) g ≡ f
-add_sub p f g h c = add_assoc p f g (multiple p (p - 1) g) ∙ ap (add p f) (sub_self p g h) ∙ add_none p f c
-
--- taking away a difference gives the other part
-pub taken : (p : ℕ) (f g : List Term) → 0 < p → IsCanonical p f → IsCanonical p g → sub p f (sub p f g) ≡ g
-taken p f g h b c = (λ i. sub p ((sym (sub_add p f g h b) ∙ add_comm p (sub p f g) g) i) (sub p f g)) ∙ add_sub p g (sub p f g) h c
+use Rattle.homogenising.proofs.Apart.{apart_same, lead_contained, contained_lead}
 
 only_factor : (n : ℕ) (a c : List ℕ) → length a ≡ length c → OnlyFirst n (pointwise (λ x y. x + y) a c) → OnlyFirst n c
 only_factor n [] [] l o = tt
@@ -83,10 +52,10 @@ affine_factor n a b g h d =
 
 module _ (p n : ℕ) (prime : IsPrime p) where
   pub pos : 0 < p
-  pos = let h = prime.0 in omega arith
+  pos = positive_of_prime p prime
 
   pub two : 1 < p
-  two = let h = prime.0 in omega arith
+  two = above_one p prime
 
   abbrev pub Low : Monomial → Monomial → Type 0
   Low m x = cmp_dp x m ≡ Less
@@ -221,7 +190,7 @@ module _ (p n : ℕ) (prime : IsPrime p) where
     only_itself apart b c w (t, f, r, e) d =
         let k = all t f ((same_ideal (t ∷ f)).0 r) in
         let l : Divides (lead_mono k.0) w = subst (Divides (lead_mono k.0)) e k.2 in
-        let s : k.0 ≡ b = apart_same ds b k.0 apart c k.1 (divides_chain (lead_mono k.0) w (lead_mono b) l d) in
+        let s : k.0 ≡ b = apart_same ds b k.0 apart c k.1 (divides_trans (lead_mono k.0) w (lead_mono b) l d) in
         let up : Divides (lead_mono b) w = subst (λ q. Divides (lead_mono q) w) s l in
         divides_both w (lead_mono b) (sevens w t f r e ∙ sym (seven_lead b (All-contains (IsPoly p n) ds b hd c))) d up
       where
@@ -281,7 +250,7 @@ decides_law p n is ds v r prime hi all hv hr inside out = (zero, member)
 
     rest : InIdeal p n is v → InIdeal p n is r
     rest k =
-        subst (InIdeal p n is) (taken p v r h hv.canonical hr.canonical)
+        subst (InIdeal p n is) (less_difference p v r h hv.canonical hr.canonical)
         (in_sub p n is v (sub p v r) h (poly_sub p n v r h hv hr) k inside)
 
     member : InIdeal p n is v → r ≡ []

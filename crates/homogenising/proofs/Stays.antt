@@ -4,6 +4,7 @@ use Rattle.std.specs.List.{All, Contains}
 use Rattle.std.proofs.lemmas.List.Elements.{All-nil, All-cons, All-head, All-tail, All-contains}
 use Rattle.std.proofs.lemmas.List.{length-map}
 use Rattle.monomials.specs.Mono.{Monomial, total_degree, Divides}
+use Rattle.prime_field.proofs.Table.{positive_of_prime}
 use Rattle.polys.specs.declared.term.Term.{Term}
 use Rattle.polys.specs.Terms.{EachMono, IsAffine, IsPoly, normal, add, mul, degree_of}
 use Rattle.polys.specs.Poly.{IsPlain}
@@ -191,5 +192,5 @@ module _ (p n : ℕ) (six : n ≤ 6) (pos : 0 < p) where
 
 pub stays_law : LeadsStayLeads
 stays_law p n gs qs prime six a b c h =
-    let pos : 0 < p = (let two = prime.0 in omega arith) in
+    let pos = positive_of_prime p prime in
     record { members = lower_members p n six pos gs qs a c; leads = lower_leads p n six pos gs qs a b h }

@@ -5,9 +5,9 @@ use Rattle.monomials.proofs.Exponents.{total_degree-set}
 use Rattle.polys.specs.declared.term.Term.{Term}
 use Rattle.polys.specs.Poly.{IsVector, IsPlain}
 use Rattle.polys.specs.Terms.{EachMono, IsAffine, IsPoly, degree_of}
-use Rattle.polys.proofs.Degrees.{AtMost, each_degree}
 use Rattle.polys.proofs.Each.{every_more, every_zip}
 use Rattle.polys.proofs.Merge.{mono_at}
+use Rattle.polys.proofs.Products.{degree_at}
 use Rattle.homogenising.specs.Homogenised.{with_hom, homogenised_to, without_hom, IsUnlifted}
 use Rattle.homogenising.specs.Laws.{IsHomogeneousPoly}
 use Rattle.homogenising.proofs.Images.{every_image}
@@ -28,16 +28,12 @@ unlifted n m h a =
 pub all_unlifted : (p n : ℕ) (f : List Term) → n ≤ 6 → IsPoly p n f → EachMono IsUnlifted f
 all_unlifted p n f h a = every_more (IsAffine n) IsUnlifted f (λ m x. unlifted n m h x) a.affine
 
--- a term of a list is no higher than the list
-pub no_higher : (f : List Term) (i : ℕ) (t : Term) → i < length f → t ≡ get_or f i t → total_degree t.mono.exponents ≤ degree_of f
-no_higher f i t h e = mono_at (AtMost (degree_of f)) f i t (each_degree f) h e
-
 pub lifted_room : (f : List Term) (i : ℕ) (t : Term) (K d : ℕ) → EachMono IsUnlifted f → i < length f → t ≡ get_or f i t → d ≡ total_degree t.mono.exponents → degree_of f ≤ K → K ≤ 60000
     → total_degree (set t.mono.exponents 6 (K - d)) ≤ 60000
 lifted_room f i t K d u h e q l k =
     let a = mono_at IsUnlifted f i t u h e in
     let z = a.none in
-    let b = no_higher f i t h e in
+    let b = degree_at f i t h e in
     let s = total_degree-set t.mono.exponents 6 (K - d) (let n = a.seven in omega arith) in
     omega arith
 

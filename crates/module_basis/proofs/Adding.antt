@@ -13,7 +13,8 @@ use Rattle.graded_modules.specs.Module.{InModule, IsLeadMultiple}
 use Rattle.graded_modules.specs.SVector.{IsSettled, s_vector, lead_lcm}
 use Rattle.graded_modules.specs.Laws.{ArePaired}
 use Rattle.graded_modules.proofs.Members.{in_generator, in_larger}
-use Rattle.graded_modules.proofs.SVectors.{positive, above_one, same_degrees, s_vector_law}
+use Rattle.graded_modules.proofs.SVectors.{same_degrees, s_vector_law}
+use Rattle.prime_field.proofs.Table.{positive_of_prime as positive, above_one}
 use Rattle.module_basis.specs.Gens.{IsHomogeneousOver, term_lists}
 use Rattle.module_basis.specs.Division.{Reduces}
 use Rattle.module_basis.specs.declared.gens.Gens.{Gens}

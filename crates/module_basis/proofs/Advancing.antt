@@ -12,7 +12,7 @@ use Rattle.graded_modules.specs.Module.{InModule}
 use Rattle.graded_modules.specs.SVector.{IsSettled, lead_lcm}
 use Rattle.graded_modules.specs.Bases.{IsBasisBelow}
 use Rattle.graded_modules.proofs.Members.{in_generator, in_larger}
-use Rattle.graded_modules.proofs.SVectors.{positive, above_one}
+use Rattle.prime_field.proofs.Table.{positive_of_prime as positive, above_one}
 use Rattle.module_basis.specs.Gens.{AreGens, term_lists}
 use Rattle.module_basis.specs.declared.gens.Gens.{Gens}
 use Rattle.module_basis.specs.declared.growing.Growing.{Growing}

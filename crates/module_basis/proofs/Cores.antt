@@ -10,10 +10,9 @@ use Rattle.std.proofs.lemmas.List.{get_or-map, get_or_default}
 use Rattle.std.proofs.lemmas.List.Elements.{Contains-get_or, Contains-append_left, Contains-push, Contains-push_cases}
 use Rattle.std.proofs.lemmas.List.Quantifiers.{all_pairs_push}
 use Rattle.monomials.specs.Mono.{Monomial, Divides, cmp_dp}
-use Rattle.monomials.proofs.Order.{same_dp}
+use Rattle.monomials.proofs.Order.{same_dp, chain_up, turn_down}
 use Rattle.polys.specs.declared.term.Term.{Term}
 use Rattle.polys.specs.Poly.{Polynomial}
-use Rattle.polys.proofs.Weights.{chain_up, turn_down}
 use Rattle.graded_modules.specs.Vector.{lead_mono}
 use Rattle.graded_modules.specs.Module.{IsLeadMultiple}
 use Rattle.module_basis.specs.Gens.{term_lists}

@@ -25,9 +25,11 @@ use Rattle.graded_modules.specs.SVector.{IsSumBelow, IsSettled, lead_lcm, s_vect
 use Rattle.graded_modules.proofs.Graded.{lead_graded, vector_multiple}
 use Rattle.graded_modules.proofs.Cofactors.{divides_degree, divides_same, lcm_right, same_shape}
 use Rattle.graded_modules.proofs.Members.{in_add, in_sub, in_multiple, in_generator, in_larger}
-use Rattle.graded_modules.proofs.Settled.{settled_law, sub_none}
-use Rattle.graded_modules.proofs.SVectors.{positive, above_one, same_degrees}
-use Rattle.graded_modules.proofs.Sums.{from_sub, to_sub, multiple_multiple, multiple_residue, multiple_one, multiple_zero}
+use Rattle.graded_modules.proofs.Settled.{settled_law}
+use Rattle.graded_modules.proofs.SVectors.{same_degrees}
+use Rattle.prime_field.proofs.Table.{positive_of_prime as positive, above_one}
+use Rattle.polys.proofs.Multiples.{multiple_multiple, multiple_residue, multiple_one, multiple_zero}
+use Rattle.polys.proofs.Differences.{from_sub, to_sub, sub_none}
 use Rattle.graded_modules.proofs.Tops.{tail_below}
 use Rattle.module_basis.specs.Gens.{term_lists}
 use Rattle.module_basis.specs.declared.gens.Gens.{Gens}

@@ -19,7 +19,7 @@ use Rattle.graded_modules.specs.Vector.{IsGenerator, degree_at, lead_mono}
 use Rattle.graded_modules.specs.Module.{InModule}
 use Rattle.graded_modules.specs.Bases.{HasAllLeads, SpanOneModule}
 use Rattle.graded_modules.proofs.Members as Modules
-use Rattle.graded_modules.proofs.SVectors.{above_one}
+use Rattle.prime_field.proofs.Table.{above_one}
 use Rattle.graded_modules.proofs.Tops.{tail_below}
 use Rattle.homogenising.specs.Homogenised.{homogenised, dehomogenised, all_homogenised, all_dehomogenised}
 use Rattle.homogenising.specs.Laws.{IsHomogeneousPoly, HomogenisedLaws, DehomogenisedLaws, HasAffineLeads, LeadsStay, LeadsStayLeads, ReducedByAffineLeads}

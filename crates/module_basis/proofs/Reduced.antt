@@ -7,7 +7,7 @@ use Rattle.std.proofs.lemmas.List.Elements.{All-contains, Contains-get_or}
 use Rattle.prime_field.specs.Primes.{IsPrime}
 use Rattle.monomials.specs.Mono.{Monomial, Divides, total_degree, cmp_dp}
 use Rattle.monomials.proofs.Order.{multiple_not_less}
-use Rattle.monomials.proofs.Factors.{divides_law}
+use Rattle.monomials.proofs.Factors.{divides_law, divides_trans}
 use Rattle.polys.specs.declared.term.Term.{Term}
 use Rattle.polys.specs.Poly.{Polynomial, IsVector}
 use Rattle.polys.specs.Terms.{IsCanonical, EachMono, IsMonic, IsPoly, sub}
@@ -20,10 +20,9 @@ use Rattle.polys.proofs.Units.{canonical_same}
 use Rattle.graded_modules.specs.Vector.{IsGradedVector, IsGenerator, HasDegree, degree_at, lead_mono}
 use Rattle.graded_modules.specs.Module.{InModule, IsLeadMultiple}
 use Rattle.graded_modules.specs.Bases.{AreApart}
-use Rattle.graded_modules.proofs.Cofactors.{divides_trans}
 use Rattle.graded_modules.proofs.Members as Modules
-use Rattle.graded_modules.proofs.SVectors.{positive}
-use Rattle.graded_modules.proofs.Sums.{from_sub, to_sub, sub_cons}
+use Rattle.prime_field.proofs.Table.{positive_of_prime as positive}
+use Rattle.polys.proofs.Differences.{from_sub, to_sub, sub_cons}
 use Rattle.module_basis.specs.Gens.{term_lists}
 use Rattle.module_basis.specs.Reduction.{IsInterreduced}
 use Rattle.module_basis.specs.Growing.{member}

@@ -24,7 +24,8 @@ use Rattle.graded_modules.specs.SVector.{Multiple, total, top, IsBelow, IsSumBel
 use Rattle.graded_modules.proofs.Graded.{graded_times, degree_times}
 use Rattle.graded_modules.proofs.Members as Modules
 use Rattle.graded_modules.proofs.Multiples.{normal-total}
-use Rattle.graded_modules.proofs.Sums.{mul_two, to_sub}
+use Rattle.polys.proofs.Multiples.{mul_two}
+use Rattle.polys.proofs.Differences.{to_sub}
 use Rattle.graded_modules.proofs.SVectors.{same_degrees}
 use Rattle.graded_modules.proofs.Tops.{tail_below}
 use Rattle.module_basis.specs.Division.{AreSteps, Reduces, after}

@@ -8,11 +8,11 @@ use Rattle.std.proofs.lemmas.List.Elements.{Contains-append_right}
 use Rattle.prime_field.specs.Primes.{IsPrime}
 use Rattle.monomials.specs.Mono.{Monomial, IsMono, Divides, times, total_degree, cmp_dp}
 use Rattle.monomials.proofs.Exponents.{total_degree-plus}
-use Rattle.monomials.proofs.Order.{times_comm}
+use Rattle.monomials.proofs.Order.{times_comm, turn_down, chain_up}
 use Rattle.polys.specs.declared.term.Term.{Term}
 use Rattle.polys.specs.Terms.{Under, IsCanonical, EachMono, IsMonic, add, mul, degree_of}
 use Rattle.polys.specs.Poly.{Polynomial, IsVector, IsPlain}
-use Rattle.polys.proofs.Weights.{weigh, weigh-normal, canon, normal_same, normal_ext, turn_down, chain_up}
+use Rattle.polys.proofs.Weights.{weigh, weigh-normal, canon, normal_same, normal_ext}
 use Rattle.polys.proofs.Sums.{alike_append}
 use Rattle.polys.proofs.Each.{every_append, every_add, every_under}
 use Rattle.polys.proofs.Leads.{every_low}

@@ -8,7 +8,7 @@ use Rattle.polys.specs.declared.term.Term.{Term}
 use Rattle.polys.specs.Terms.{EachMono, IsMonic}
 use Rattle.polys.specs.Poly.{Polynomial, IsVector}
 use Rattle.polys.proofs.Each.{every_under}
-use Rattle.polys.proofs.Weights.{turn_up}
+use Rattle.monomials.proofs.Order.{turn_up}
 use Rattle.graded_modules.proofs.Tops.{tail_below}
 use Rattle.module_basis.specs.Gens.{term_lists}
 use Rattle.module_basis.specs.Division.{IsDivisor, Reduces}

@@ -16,7 +16,7 @@ use Rattle.graded_modules.specs.Bases.{IsBasisBelow, SpanOneModule, IsNormalForm
 use Rattle.graded_modules.proofs.Graded.{lead_graded}
 use Rattle.graded_modules.proofs.Bases.{basis_law}
 use Rattle.graded_modules.proofs.Members.{in_generator}
-use Rattle.graded_modules.proofs.SVectors.{above_one}
+use Rattle.prime_field.proofs.Table.{above_one}
 use Rattle.graded_modules.proofs.Reduced.{reduced_law, normal_law}
 use Rattle.module_basis.specs.Gens.{AreGens, IsHomogeneousOver, term_lists}
 use Rattle.module_basis.specs.declared.gens.Gens.{Gens}

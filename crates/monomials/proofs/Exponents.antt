@@ -1,6 +1,12 @@
 -- Lists of exponents, place by place.
-use Rattle.std.proofs.Common.{◌≡◌, ℕ, ◌+◌, ◌-◌, ◌<◌, ◌≤◌, zero, suc, List, [], ◌∷◌, length, take, set, get_or, replicate, refl, ap, arith}
+use Rattle.std.proofs.Common.{◌≡◌, ℕ, ◌+◌, ◌-◌, ◌<◌, ◌≤◌, zero, suc, List, [], ◌∷◌, ◌++◌, length, take, set, get_or, replicate, refl, ap, arith}
 use Rattle.monomials.specs.Mono.{pointwise, total_degree}
+
+-- a list of zeros has 0 at each place
+pub zeros_at : (n i : ℕ) → get_or (replicate {A = ℕ} n 0) i 0 ≡ 0
+zeros_at zero i = refl
+zeros_at (suc n) zero = refl
+zeros_at (suc n) (suc i) = zeros_at n i
 
 -- ---- an operation at each place
 
@@ -73,6 +79,10 @@ pub total_degree-plus : (a b : List ℕ) → total_degree (plus a b) ≡ total_d
 total_degree-plus [] b = omega arith
 total_degree-plus (x ∷ a) [] = omega arith
 total_degree-plus (x ∷ a) (y ∷ b) = omega (arith, total_degree-plus a b)
+
+pub total_degree-push : (a : List ℕ) (c : ℕ) → total_degree (a ++ c ∷ []) ≡ total_degree a + c
+total_degree-push [] c = omega arith
+total_degree-push (x ∷ a) c = omega (arith, total_degree-push a c)
 
 pub exponent_le : (a : List ℕ) (i : ℕ) → get_or a i 0 ≤ total_degree a
 exponent_le [] i = omega arith

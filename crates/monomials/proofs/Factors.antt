@@ -1,5 +1,5 @@
 -- Divisors and least common multiples.
-use Rattle.std.proofs.Common.{◌≡◌, ℕ, ◌+◌, ◌-◌, ◌≤◌, zero, suc, List, [], ◌∷◌, length, get_or, max, refl, sym, subst, arith}
+use Rattle.std.proofs.Common.{◌≡◌, ℕ, ◌+◌, ◌-◌, ◌≤◌, zero, suc, List, [], ◌∷◌, length, get_or, max, refl, sym, ◌∙◌, subst, arith}
 use Rattle.monomials.specs.Mono.{Monomial, pointwise, times, Divides}
 use Rattle.monomials.specs.Laws.{DividesItsMultiples, LeastCommonMultiple}
 use Rattle.monomials.proofs.Exponents.{plus}
@@ -82,3 +82,24 @@ lcm_law = record {
   right = λ a b e s. record { same = sym s; none_greater = under_right a.exponents b.exponents };
   least = λ a b c e h k. record { same = h.same; none_greater = under_least a.exponents b.exponents c.exponents h.none_greater k.none_greater };
 }
+
+-- ---- divisors of divisors
+
+pub divides_trans : (a b c : Monomial) → Divides a b → Divides b c → Divides a c
+divides_trans a b c h k = record { same = h.same ∙ k.same; none_greater = λ i. let x = h.none_greater i in let y = k.none_greater i in omega arith }
+
+same_places : (a b : List ℕ) → length a ≡ length b → Under a b → Under b a → a ≡ b
+same_places [] [] l h k = refl
+same_places [] (y ∷ b) l h k = absurd (omega arith)
+same_places (x ∷ a) [] l h k = absurd (omega arith)
+same_places (x ∷ a) (y ∷ b) l h k =
+    let p : x ≤ y = h 0 in
+    let q : y ≤ x = k 0 in
+    let e : x ≡ y = omega arith in
+    λ i. e i ∷ same_places a b (omega arith) (λ j. h (suc j)) (λ j. k (suc j)) i
+
+-- monomials that divide each other are one
+pub divides_both : (a b : Monomial) → length a.exponents ≡ length b.exponents → Divides a b → Divides b a → a ≡ b
+divides_both a b l h k =
+    let e = same_places a.exponents b.exponents l h.none_greater k.none_greater in
+    λ i. record { exponents = e i; component = h.same i }

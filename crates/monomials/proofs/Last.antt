@@ -1,5 +1,5 @@
--- The loop of `cmp_dp`: the comparison of the first so many exponents.
-use Rattle.std.proofs.Common.{◌≡◌, ◌≢◌, ℕ, ◌+◌, ◌<◌, ◌≤◌, zero, suc, List, [], ◌∷◌, length, take, get_or, refl, sym, ap, ◌∙◌, arith}
+-- Which place decides a comparison, and the comparison of the first so many exponents.
+use Rattle.std.proofs.Common.{◌≡◌, ◌≢◌, ℕ, ◌+◌, ◌<◌, ◌≤◌, zero, suc, List, [], ◌∷◌, ◌++◌, length, take, get_or, refl, sym, ap, ◌∙◌, arith}
 use Rattle.std.specs.declared.cmp.Ordering.{Ordering}
 use Rattle.std.specs.declared.cmp.Ordering.TheVariants.{Less, Equal, Greater}
 use Rattle.std.specs.Ordering.{ordering_then, nat_cmp}
@@ -7,12 +7,12 @@ use Rattle.std.specs.Cmp.{nat_cmp_is}
 use Rattle.std.specs.Cmp.{ranked}
 use Rattle.monomials.specs.Mono.{Monomial, total_degree, cmp_last, cmp_dp}
 
-then_equal_right : (r : Ordering) → r ≡ ordering_then r Equal
-then_equal_right Less = refl
-then_equal_right Equal = refl
-then_equal_right Greater = refl
+pub then_right : (r : Ordering) → r ≡ ordering_then r Equal
+then_right Less = refl
+then_right Equal = refl
+then_right Greater = refl
 
-then_assoc : (r s t : Ordering) → ordering_then (ordering_then r s) t ≡ ordering_then r (ordering_then s t)
+pub then_assoc : (r s t : Ordering) → ordering_then (ordering_then r s) t ≡ ordering_then r (ordering_then s t)
 then_assoc Less s t = refl
 then_assoc Equal s t = refl
 then_assoc Greater s t = refl
@@ -26,10 +26,18 @@ last_at : (a b : List ℕ) (i : ℕ) → i < length a → i < length b
     → cmp_last (take (suc i) a) (take (suc i) b) ≡ ordering_then (nat_cmp (get_or b i 0) (get_or a i 0)) (cmp_last (take i a) (take i b))
 last_at [] b i h k = absurd (omega arith)
 last_at (x ∷ a) [] i h k = absurd (omega arith)
-last_at (x ∷ a) (y ∷ b) zero h k = then_equal_right (nat_cmp y x)
+last_at (x ∷ a) (y ∷ b) zero h k = then_right (nat_cmp y x)
 last_at (x ∷ a) (y ∷ b) (suc i) h k =
     (λ j. ordering_then (last_at a b i (omega arith) (omega arith) j) (nat_cmp y x))
     ∙ then_assoc (nat_cmp (get_or b i 0) (get_or a i 0)) (cmp_last (take i a) (take i b)) (nat_cmp y x)
+
+-- a last place more decides first
+pub cmp_last-push : (a b : List ℕ) (x y : ℕ) → length a ≡ length b → cmp_last (a ++ x ∷ []) (b ++ y ∷ []) ≡ ordering_then (nat_cmp y x) (cmp_last a b)
+cmp_last-push [] [] x y h = then_right (nat_cmp y x)
+cmp_last-push [] (w ∷ b) x y h = absurd (omega arith)
+cmp_last-push (z ∷ a) [] x y h = absurd (omega arith)
+cmp_last-push (z ∷ a) (w ∷ b) x y h =
+    (λ i. ordering_then (cmp_last-push a b x y (omega arith) i) (nat_cmp w z)) ∙ then_assoc (nat_cmp y x) (cmp_last a b) (nat_cmp w z)
 
 not_tied : (x y : ℕ) → x ≢ y → nat_cmp x y ≢ Equal
 not_tied x y h e = h (ranked x y Equal (sym e))

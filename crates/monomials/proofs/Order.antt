@@ -10,12 +10,12 @@ use Rattle.monomials.proofs.Exponents.{plus, plus_comm, plus_assoc, plus_zeros, 
 
 -- ---- the last place that differs
 
-then_equal : (r s : Ordering) → ordering_then r s ≡ Equal → (r ≡ Equal) × (s ≡ Equal)
+pub then_equal : (r s : Ordering) → ordering_then r s ≡ Equal → (r ≡ Equal) × (s ≡ Equal)
 then_equal Less s e = (e, absurd (grind arith))
 then_equal Equal s e = (refl, e)
 then_equal Greater s e = (e, absurd (grind arith))
 
-same_last : (a b : List ℕ) → cmp_last a b ≡ Equal → a ≡ b
+pub same_last : (a b : List ℕ) → cmp_last a b ≡ Equal → a ≡ b
 same_last [] [] e = refl
 same_last [] (y ∷ b) e = absurd (grind arith)
 same_last (x ∷ a) [] e = absurd (grind arith)
@@ -81,6 +81,16 @@ dp_total =
 
 pub dp_law : DpIsTotal
 dp_law = record { order = dp_total; ties = same_dp }
+
+-- the comparison from the other side
+pub turn_down : (a b : Monomial) → cmp_dp a b ≡ Greater → cmp_dp b a ≡ Less
+turn_down a b e = dp_total.antisymm b a ∙ ap ordering_reverse e
+
+pub turn_up : (a b : Monomial) → cmp_dp a b ≡ Less → cmp_dp b a ≡ Greater
+turn_up a b e = dp_total.antisymm b a ∙ ap ordering_reverse e
+
+pub chain_up : (a b c : Monomial) → cmp_dp a b ≡ Greater → cmp_dp b c ≡ Greater → cmp_dp a c ≡ Greater
+chain_up a b c h k = turn_up c a (dp_total.trans c b a (turn_down b c k) (turn_down a b h))
 
 -- ---- products keep the order
 

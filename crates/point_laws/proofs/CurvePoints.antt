@@ -9,7 +9,7 @@ use Rattle.comm_ring.specs.Ideals.{InIdeal}
 use Rattle.comm_ring.proofs.Ideals as Ideals
 use Rattle.comm_ring.proofs.Modules as Modules
 use Rattle.comm_ring.proofs.Residues.{residues}
-use Rattle.comm_ring.proofs.Fields.{positive_of_prime}
+use Rattle.prime_field.proofs.Table.{positive_of_prime}
 use Rattle.fraction_laws.specs.Curves.{curve_ops, RegularOver, space_over}
 use Rattle.fraction_laws.proofs.CurveLaws as CurveLaws
 use Rattle.point_laws.specs.Points.{Point, PointOver, SameIdeal, DistinctPoints, HasAllPoints}

@@ -8,7 +8,7 @@ use Rattle.comm_ring.specs.Modules.{Dimension}
 use Rattle.comm_ring.specs.Ideals.{InIdeal}
 use Rattle.comm_ring.proofs.Derived as Derived
 use Rattle.comm_ring.proofs.Expressions.{ring_as, v0, c1, ◌*:◌, minus}
-use Rattle.comm_ring.proofs.Fields.{positive_of_prime}
+use Rattle.prime_field.proofs.Table.{positive_of_prime}
 use Rattle.fraction_laws.specs.Fractions.{Regular, Frac, fraction_ops, InA, IsFractionRing}
 use Rattle.point_laws.specs.Points.{LocalAt, SumOfParts}
 use Rattle.fraction_laws.specs.Laws.{IsClosed}

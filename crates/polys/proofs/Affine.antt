@@ -1,5 +1,5 @@
 -- Sums and products of polynomials in n variables are such polynomials.
-use Rattle.std.proofs.Common.{◌≡◌, ℕ, ◌-◌, ◌*◌, ◌<◌, zero, suc, List, [], ◌∷◌, ◌++◌, replicate, refl, ap, ◌∙◌, arith, append-nil}
+use Rattle.std.proofs.Common.{◌≡◌, ℕ, ◌-◌, ◌*◌, ◌<◌, zero, suc, List, [], ◌∷◌, ◌++◌, length, replicate, refl, ap, ◌∙◌, arith, append-nil}
 use Rattle.std.specs.List.{All}
 use Rattle.std.proofs.lemmas.List.Elements.{All-head, All-tail}
 use Rattle.monomials.specs.Mono.{Monomial, times, unit}
@@ -19,10 +19,16 @@ only_plus n (x ∷ a) [] h k = h
 only_plus zero (x ∷ a) (y ∷ b) h k = let p = h.0 in let q = k.0 in (omega arith, only_plus zero a b h.1 k.1)
 only_plus (suc n) (x ∷ a) (y ∷ b) h k = only_plus n a b h k
 
-only_zeros : (n k : ℕ) → OnlyFirst n (replicate k 0)
+pub only_zeros : (n k : ℕ) → OnlyFirst n (replicate k 0)
 only_zeros n zero = tt
 only_zeros zero (suc k) = (refl, only_zeros zero k)
 only_zeros (suc n) (suc k) = only_zeros n k
+
+pub zeros : (n : ℕ) (a : List ℕ) → length a ≡ n → OnlyFirst zero a → a ≡ replicate n 0
+zeros zero [] e h = refl
+zeros zero (x ∷ a) e h = absurd (omega arith)
+zeros (suc n) [] e h = absurd (omega arith)
+zeros (suc n) (x ∷ a) e h = λ i. h.0 i ∷ zeros n a (omega arith) h.1 i
 
 pub affine_times : (n : ℕ) (m w : Monomial) → IsAffine n m → IsAffine n w → IsAffine n (times m w)
 affine_times n m w h k = record {

@@ -7,7 +7,7 @@ use Rattle.std.proofs.Math.ListN.{length-set}
 use Rattle.std.specs.declared.cmp.Ordering.TheVariants.{Greater}
 use native.Mathlib.Nat.{mod-lt, zero-mod}
 use Rattle.monomials.specs.Mono.{Monomial, IsMono, times, variable, cmp_dp}
-use Rattle.monomials.proofs.Exponents.{plus, plus_zeros}
+use Rattle.monomials.proofs.Exponents.{plus, plus_zeros, zeros_at}
 use Rattle.monomials.proofs.Order.{cmp_dp-times, times_cancel}
 use Rattle.prime_field.specs.Primes.{IsPrime}
 use Rattle.polys.specs.declared.term.Term.{Term}
@@ -45,11 +45,6 @@ pub quotient_is : (v : ℕ) (t : Term) (q : Monomial) → Seven t.mono → Seven
 quotient_is v t q s r h k e =
     times_cancel q (lowered v t.mono) (variable v) (r ∙ sym (seven_lowered v t.mono s)) (e ∙ sym (times-lowered v t.mono s h k))
 
-zeros_at : (n i : ℕ) → get_or (replicate {A = ℕ} n 0) i 0 ≡ 0
-zeros_at zero i = refl
-zeros_at (suc n) zero = refl
-zeros_at (suc n) (suc i) = zeros_at n i
-
 -- the variable divides what has it
 pub variable_under : (n : ℕ) (a : List ℕ) (v : ℕ) → 0 < get_or a v 0 → (i : ℕ) → get_or (set (replicate n 0) v 1) i 0 ≤ get_or a i 0
 variable_under zero a v k i = let z : get_or {A = ℕ} (set [] v 1) i 0 ≡ 0 = refl in omega arith
@@ -82,7 +77,7 @@ alike_derived p v (t ∷ f) χ =
     (same_product p t.coeff (get_or t.mono.exponents v 0) (χ (lowered v t.mono))) (alike_derived p v f χ)
 
 -- what stays has the variable
-has_variable : (p k e : ℕ) → ((k * (e % p)) % p ≡ 0 → ⊥) → 0 < e
+pub has_variable : (p k e : ℕ) → ((k * (e % p)) % p ≡ 0 → ⊥) → 0 < e
 has_variable p k zero h =
     let z : k * 0 ≡ 0 = omega arith in
     absurd (h (ap (λ (n : ℕ). (k * n) % p) (zero-mod p) ∙ ap (λ (n : ℕ). n % p) z ∙ zero-mod p))

@@ -4,11 +4,11 @@ use Rattle.std.specs.declared.cmp.Ordering.TheVariants.{Greater}
 use Rattle.std.specs.Prelude.{Some, slice_get}
 use native.Mathlib.Nat.{mod-eq_of_lt}
 use Rattle.monomials.specs.Mono.{Monomial, times, cmp_dp}
-use Rattle.monomials.proofs.Order.{times_comm, cmp_dp-times}
+use Rattle.monomials.proofs.Order.{times_comm, cmp_dp-times, chain_up}
 use Rattle.prime_field.specs.Primes.{IsPrime}
 use Rattle.polys.specs.declared.term.Term.{Term}
 use Rattle.polys.specs.Terms.{keep, put_by, put, normal, Under, IsCanonical, EachMono, scaled, multiple, scale, products, mul, IsMonic, IsMonicOf}
-use Rattle.polys.proofs.Weights.{Canon, canon, chain_up}
+use Rattle.polys.proofs.Weights.{Canon, canon}
 use Rattle.polys.proofs.Each.{every_append, every_scale, every_products, every_under, every_normal, every_zip, every_more, every_multiple}
 use Rattle.polys.proofs.Field.{no_zero_divisors}
 
@@ -30,7 +30,7 @@ unfolding Canon
 every_low p m [] c u = tt
 every_low p m (t ∷ f) c u = (u, every_more (λ w. cmp_dp t.mono w ≡ Greater) (λ w. cmp_dp m w ≡ Greater) f (λ w. chain_up m t.mono w u) (every_low p t.mono f c.3 c.2))
 
-keep_some : (c : ℕ) (m : Monomial) (f : List Term) → (c ≡ 0 → ⊥) → keep c m f ≡ record { coeff = c; mono = m } ∷ f
+pub keep_some : (c : ℕ) (m : Monomial) (f : List Term) → (c ≡ 0 → ⊥) → keep c m f ≡ record { coeff = c; mono = m } ∷ f
 keep_some c m f n = go (c == 0) refl
   where
     go : (b : Bool) → (c == 0) ≡ b → cond b f (record { coeff = c; mono = m } ∷ f) ≡ record { coeff = c; mono = m } ∷ f

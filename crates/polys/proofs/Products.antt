@@ -149,9 +149,6 @@ vector_take p i f h = record { canonical = canonical_take p i f h.canonical; mon
 pub vector_drop : (p i : ℕ) (f : List Term) → IsVector p f → IsVector p (drop i f)
 vector_drop p i f h = record { canonical = canonical_drop p i f h.canonical; monos = every_drop IsMono i f h.monos }
 
-pub mul_none : (p : ℕ) (f : List Term) → mul p f [] ≡ []
-mul_none p f = mul_comm p f []
-
 -- a product whose second factor was cut
 pub mul_halves : (p i : ℕ) (f g low high : List Term) → low ≡ mul p f (take i g) → high ≡ mul p f (drop i g) → add p low high ≡ mul p f g
 mul_halves p i f g low high l h =

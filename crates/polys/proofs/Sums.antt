@@ -123,5 +123,5 @@ pub mul-add : (p : ℕ) (f g h : List Term) → mul p f (add p g h) ≡ add p (m
 mul-add p f g h =
     mul_comm p f (add p g h) ∙ add-mul p g h f ∙ (λ i. add p (mul_comm p g f i) (mul_comm p h f i))
 
-pub mul_zero : (p : ℕ) (f : List Term) → mul p f [] ≡ []
-mul_zero p f = mul_comm p f []
+pub mul_none : (p : ℕ) (f : List Term) → mul p f [] ≡ []
+mul_none p f = mul_comm p f []

@@ -3,20 +3,20 @@ use Rattle.std.proofs.Common.{◌≡◌, ◌↔◌, ◌⊎◌, inl, inr, ℕ, �
 use Rattle.std.specs.List.{All, AllPairs, Contains}
 use Rattle.std.proofs.lemmas.List.Elements.{All-head, All-tail, All-contains}
 use Rattle.std.specs.declared.cmp.Ordering.TheVariants.{Less, Equal}
-use native.Mathlib.Nat.{mul-add-mod_self_left}
 use Rattle.monomials.specs.Mono.{Monomial, cmp_dp}
 use Rattle.monomials.proofs.Order.{self_dp, dp_total}
 use Rattle.prime_field.specs.Primes.{IsPrime}
+use Rattle.prime_field.proofs.Table.{positive_of_prime, above_one}
 use Rattle.polys.specs.declared.term.Term.{Term}
 use Rattle.polys.specs.Terms.{EachMono, IsPoly, IsMonic, sub, add, scaled, multiple}
 use Rattle.polys.specs.Ideal.{InIdeal}
 use Rattle.polys.specs.Reduced.{Reduced, leads, lower_monos, IsLead}
 use Rattle.polys.specs.Laws.{ReducedIsUnique}
-use Rattle.polys.proofs.Weights.{weigh, normal_ext, weigh-append, weigh-normal, mod_plus}
 use Rattle.polys.proofs.Sums.{add_assoc, add_comm}
-use Rattle.polys.proofs.Units.{weigh-scaled, sub_self, add_none}
+use Rattle.polys.proofs.Units.{sub_self, add_none}
 use Rattle.polys.proofs.Each.{every_append, every_normal, every_multiple, every_more}
 use Rattle.polys.proofs.Ideals.{in_generator, in_sub, in_poly}
+use Rattle.polys.proofs.Differences.{sub_cons}
 
 -- ---- rising lists with the same members are equal
 
@@ -80,24 +80,6 @@ same_rising (x ∷ xs) (y ∷ ys) a b h k =
 
 -- ---- a difference
 
--- a term that both have drops out
-sub_cons : (p : ℕ) (t : Term) (f g : List Term) → 0 < p → sub p (t ∷ f) (t ∷ g) ≡ sub p f g
-unfolding weigh
-sub_cons zero t f g h = absurd (omega arith)
-sub_cons (suc k) t f g h =
-    normal_ext (suc k) ((t ∷ f) ++ multiple (suc k) (suc k - 1) (t ∷ g)) (f ++ multiple (suc k) (suc k - 1) g)
-    (λ χ. whole χ (t ∷ f) (t ∷ g) ∙ ap (λ (n : ℕ). n % suc k) (parts (t.coeff * χ t.mono) (weigh χ f) (weigh χ g))
-    ∙ mul-add-mod_self_left (suc k) (t.coeff * χ t.mono) (weigh χ f + k * weigh χ g) ∙ sym (whole χ f g))
-  where
-    whole : (χ : Monomial → ℕ) (f g : List Term) → weigh χ (f ++ multiple (suc k) (suc k - 1) g) % suc k ≡ (weigh χ f + k * weigh χ g) % suc k
-    whole χ f g =
-        ap (λ (n : ℕ). n % suc k) (weigh-append χ f (multiple (suc k) (suc k - 1) g))
-        ∙ mod_plus (suc k) (weigh χ f) (weigh χ f) (weigh χ (multiple (suc k) (suc k - 1) g)) (k * weigh χ g) refl
-        (weigh-normal (suc k) χ (scaled (suc k - 1) g) ∙ ap (λ (n : ℕ). n % suc k) (weigh-scaled χ (suc k - 1) g ∙ (let e : suc k - 1 ≡ k = omega arith in ap (λ (n : ℕ). n * weigh χ g) e)))
-
-    parts : (c x y : ℕ) → (c + x) + k * (c + y) ≡ suc k * c + (x + k * y)
-    parts c x y = omega arith
-
 -- equal where the difference is 0
 pub same_from_sub : (p n : ℕ) (f g : List Term) → 0 < p → IsPoly p n f → IsPoly p n g → sub p f g ≡ [] → f ≡ g
 same_from_sub p n f g h a b e =
@@ -119,10 +101,10 @@ each_contained (t ∷ f) = (
 
 module _ (p n : ℕ) (prime : IsPrime p) where
   positive : 0 < p
-  positive = let h = prime.0 in omega arith
+  positive = positive_of_prime p prime
 
   two : 1 < p
-  two = let h = prime.0 in omega arith
+  two = above_one p prime
 
   lead_over : (qs rs : List (List Term)) → All (IsPoly p n) qs → ((f : List Term) → IsPoly p n f → InIdeal p n qs f → InIdeal p n rs f) → (m : Monomial) → IsLead p n qs m → IsLead p n rs m
   lead_over qs rs a h m (t, f, i, e) = (t, f, h (t ∷ f) (in_poly p n qs (t ∷ f) positive a i) i, e)

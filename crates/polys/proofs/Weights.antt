@@ -1,13 +1,12 @@
 -- Two lists of terms with the same weights modulo p have one normal form.
 use Rattle.std.proofs.Common.{◌≡◌, ℕ, ◌+◌, ◌*◌, ◌%◌, ◌<◌, zero, suc, List, [], ◌∷◌, ◌++◌, cond, Bool, true, false, ◌==◌, refl, sym, ap, ◌∙◌, subst, arith, eqb-true}
 use Rattle.std.proofs.lemmas.Bool.{eqb-false}
-use Rattle.std.specs.Ordering.{ordering_reverse}
 use Rattle.std.specs.declared.cmp.Ordering.{Ordering}
 use Rattle.std.specs.declared.cmp.Ordering.TheVariants.{Less, Equal, Greater}
 use native.Mathlib.Nat.{add-mod, mod-mod, mul-add-mod_self_left, mod-zero, zero-mod, mod-eq_of_lt, mod-lt}
 use Rattle.std.proofs.lemmas.Nat.{mul-mod_first}
 use Rattle.monomials.specs.Mono.{Monomial, cmp_dp}
-use Rattle.monomials.proofs.Order.{same_dp, self_dp, dp_total}
+use Rattle.monomials.proofs.Order.{same_dp, self_dp, turn_down, turn_up, chain_up}
 use Rattle.polys.specs.declared.term.Term.{Term}
 use Rattle.polys.specs.Terms.{keep, put_by, put, normal, Under, IsCanonical}
 
@@ -68,7 +67,7 @@ weigh-normal p χ (t ∷ f) =
 
 -- ---- two polynomials with the same coefficients are equal
 
-mod_cancel : (p k a b : ℕ) → (k + a) % p ≡ (k + b) % p → a % p ≡ b % p
+pub mod_cancel : (p k a b : ℕ) → (k + a) % p ≡ (k + b) % p → a % p ≡ b % p
 mod_cancel zero k a b h =
     let e : k + a ≡ k + b = sym (mod-zero (k + a)) ∙ h ∙ mod-zero (k + b) in
     let d : a ≡ b = omega arith in
@@ -95,15 +94,6 @@ tie Greater = 0
 abbrev pub same : Monomial → Monomial → ℕ
 same w m = tie (cmp_dp m w)
 
-pub turn_down : (a b : Monomial) → cmp_dp a b ≡ Greater → cmp_dp b a ≡ Less
-turn_down a b e = dp_total.antisymm b a ∙ ap ordering_reverse e
-
-pub turn_up : (a b : Monomial) → cmp_dp a b ≡ Less → cmp_dp b a ≡ Greater
-turn_up a b e = dp_total.antisymm b a ∙ ap ordering_reverse e
-
-pub chain_up : (a b c : Monomial) → cmp_dp a b ≡ Greater → cmp_dp b c ≡ Greater → cmp_dp a c ≡ Greater
-chain_up a b c h k = turn_up c a (dp_total.trans c b a (turn_down b c k) (turn_down a b h))
-
 pub under_chain : (w m : Monomial) (f : List Term) → cmp_dp w m ≡ Greater → Under m f → Under w f
 under_chain w m [] e u = tt
 under_chain w m (v ∷ f) e u = chain_up w m v.mono e u
@@ -116,7 +106,8 @@ none_under p w (t ∷ f) c u =
     let ih = none_under p w f c.3 (under_chain w t.mono f u c.2) in
     rw (z, ih) (omega arith)
 
-at_head : (p : ℕ) (t : Term) (f : List Term) → Canon p (t ∷ f) → weigh (same t.mono) (t ∷ f) % p ≡ t.coeff
+-- the coefficient of the lead is its weight
+pub at_head : (p : ℕ) (t : Term) (f : List Term) → Canon p (t ∷ f) → weigh (same t.mono) (t ∷ f) % p ≡ t.coeff
 unfolding weigh Canon
 at_head p t f c =
     let o : same t.mono t.mono ≡ 1 = ap tie (self_dp t.mono) in
@@ -124,7 +115,7 @@ at_head p t f c =
     let e : t.coeff * same t.mono t.mono + weigh (same t.mono) f ≡ t.coeff = rw (o, z) (omega arith) in
     ap (λ (n : ℕ). n % p) e ∙ c.1
 
-head_missing : (p : ℕ) (t : Term) (f g : List Term) → Canon p (t ∷ f) → Canon p g → Under t.mono g
+pub head_missing : (p : ℕ) (t : Term) (f g : List Term) → Canon p (t ∷ f) → Canon p g → Under t.mono g
     → weigh (same t.mono) (t ∷ f) % p ≡ weigh (same t.mono) g % p → ⊥
 unfolding Canon
 head_missing p t f g c d u h =

@@ -1,5 +1,5 @@
 -- What callers see of a polynomial of the program.
-use Rattle.std.specs.Prelude.{◌≡◌, ℕ, List, [], ◌∷◌}
+use Rattle.std.specs.Prelude.{◌≡◌, ℕ, List, [], ◌∷◌, map}
 use Rattle.monomials.specs.Mono.{Monomial, IsMono}
 use Rattle.polys.specs.declared.term.Term.{Term}
 use Rattle.polys.specs.Terms.{IsCanonical, EachMono, add, sub, mul, power, derivative}
@@ -8,6 +8,10 @@ use Rattle.polys.specs.Terms.{IsCanonical, EachMono, add, sub, mul, power, deriv
 pub record Polynomial : Type 0 where
   pub prime : ℕ
   pub terms : List Term
+
+-- the terms of each polynomial of a list
+abbrev pub terms_of : List Polynomial → List (List Term)
+terms_of fs = map (λ f. f.terms) fs
 
 -- what holds of the terms of each polynomial of the program
 pub record IsVector (p : ℕ) (f : List Term) : Type 0 where

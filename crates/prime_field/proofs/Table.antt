@@ -1,4 +1,4 @@
--- Each number of the table is prime: one computed test, and what it means.
+-- Each number of the table is prime, by one computed test; a prime is above 1.
 use Rattle.std.proofs.Common.{◌≡◌, ◌≢◌, ℕ, suc, zero, Bool, true, ◌&&◌, ◌==◌, ◌<◌, ◌≤◌, ◌%◌, ◌+◌, ◌-◌, List, [], ◌∷◌, refl, arith}
 use Rattle.std.proofs.lemmas.Bool.Decides.{nat_tests, Decides-below_and, Decides-not, Decides-eqb}
 use Rattle.std.specs.Bool.{Decides}
@@ -57,3 +57,11 @@ among_from_two (q ∷ qs) p all one = grind (arith, nat_tests, among_from_two qs
 pub characteristics-are_prime : CharacteristicsArePrime
 characteristics-are_prime p one =
     prime_means p (among_from_two characteristics p table_from_two one) (among_means characteristics p table_is_prime one)
+
+-- ---- the bounds of a prime
+
+pub positive_of_prime : (p : ℕ) → IsPrime p → 0 < p
+positive_of_prime p prime = let two = prime.0 in omega arith
+
+pub above_one : (p : ℕ) → IsPrime p → 1 < p
+above_one p prime = let two = prime.0 in omega arith

@@ -14,12 +14,13 @@ use Rattle.polys.proofs.Ideals.{in_none, in_add, in_sub, in_mul, in_poly}
 use Rattle.polys.proofs.Leads.{Seven}
 use Rattle.polys.proofs.Sums.{add_assoc, add_comm, mul_normal_right}
 use Rattle.polys.proofs.Units.{add_none}
-use Rattle.polys.proofs.Weights.{turn_down}
+use Rattle.monomials.proofs.Order.{turn_down}
 use Rattle.graded_modules.specs.Vector.{lead_mono}
 use Rattle.graded_modules.specs.Module.{IsLeadMultiple}
 use Rattle.homogenising.proofs.Descent.{Step, descent}
 use Rattle.homogenising.proofs.Found.{search_lead}
-use Rattle.homogenising.proofs.Spanning.{pos, Low, cancel, sub_cons, sub_add, taken}
+use Rattle.homogenising.proofs.Spanning.{pos, Low, cancel}
+use Rattle.polys.proofs.Differences.{sub_cons, sub_add, less_difference as taken}
 use Rattle.standard_monomials.specs.Standard.{IsStandardBasis, IsStandard, IsRemainder}
 use Rattle.standard_monomials.specs.Laws.{RemaindersAreUnique}
 

@@ -1,5 +1,4 @@
-use Rattle.prime_field.proofs.Table.{characteristics-are_prime}
-use Rattle.comm_ring.proofs.Fields.{positive_of_prime}
+use Rattle.prime_field.proofs.Table.{characteristics-are_prime, positive_of_prime}
 use Rattle.comm_ring.proofs.Rows.{row_laws, equal_rows}
 use Rattle.comm_ring.proofs.rows_are_a_module.Goals as goal
 

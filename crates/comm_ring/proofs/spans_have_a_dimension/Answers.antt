@@ -1,12 +1,12 @@
 use Rattle.prime_field.specs.Primes.{IsCharacteristic}
-use Rattle.prime_field.proofs.Table.{characteristics-are_prime}
+use Rattle.prime_field.proofs.Table.{characteristics-are_prime, positive_of_prime}
 use Rattle.std.proofs.Common.{ℕ}
 use Rattle.comm_ring.specs.Residues.{residue_ops}
 use Rattle.comm_ring.specs.Rows.{rows}
 use Rattle.comm_ring.specs.Ring.{CommRing}
 use Rattle.comm_ring.specs.Modules.{IsField, InSpan}
 use Rattle.comm_ring.proofs.Residues.{residues}
-use Rattle.comm_ring.proofs.Fields.{positive_of_prime, residue_field}
+use Rattle.comm_ring.proofs.Fields.{residue_field}
 use Rattle.comm_ring.proofs.Modules as Modules
 use Rattle.comm_ring.proofs.Modules.{Module}
 use Rattle.comm_ring.proofs.Rows.{row_module}

@@ -1,9 +1,9 @@
 use Rattle.std.proofs.Common.{◌≡◌, ◌≢◌, ◌⊎◌, inl, inr, ◌∙◌, ℕ, ◌*◌, ◌%◌, mod-eq_of_lt}
 use Rattle.prime_field.specs.Primes.{IsPrime}
-use Rattle.prime_field.proofs.Table.{characteristics-are_prime}
+use Rattle.prime_field.proofs.Table.{characteristics-are_prime, positive_of_prime}
 use Rattle.comm_ring.specs.Residues.{residue_ops}
 use Rattle.comm_ring.proofs.Residues.{residues}
-use Rattle.comm_ring.proofs.Fields.{positive_of_prime, residue_field}
+use Rattle.comm_ring.proofs.Fields.{residue_field}
 use Rattle.fraction_laws.specs.Laws.{FractionLaws}
 use Rattle.fraction_laws.proofs.Units.{identity, regular, none}
 use Rattle.fraction_laws.proofs.LawsHold.{fraction_laws}

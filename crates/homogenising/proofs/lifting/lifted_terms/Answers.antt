@@ -1,10 +1,11 @@
 use Rattle.std.proofs.Common.{arith}
-use Rattle.homogenising.proofs.Terms.{no_higher, lifted_room}
+use Rattle.homogenising.proofs.Terms.{lifted_room}
+use Rattle.polys.proofs.Products.{degree_at}
 use Rattle.homogenising.proofs.lifting.lifted_terms.Goals as goal
 
 pub overflow_sub-degree : goal.overflow_sub-degree
 overflow_sub-degree c =
-    let h = no_higher c.args.f.now c.loop-t.t-index c.t-item.result c.loop-t-test.true c.t-item.is in
+    let h = degree_at c.args.f.now c.loop-t.t-index c.t-item.result c.loop-t-test.true c.t-item.is in
     let e = c.degree.ensures.value in
     let l = c.requires.no_smaller in
     omega arith

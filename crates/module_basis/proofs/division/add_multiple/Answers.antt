@@ -1,10 +1,9 @@
 use Rattle.std.proofs.Common.{◌≡◌, ℕ, ◌+◌, ◌-◌, ◌≤◌, ◌⊎◌, inl, inr, List, [], ◌++◌, ◌∷◌, length, take, drop, map, arith, refl, sym, ap, ◌∙◌, subst}
 use Rattle.std.proofs.lemmas.List.{take_rest, drop-map, length-map}
-use Rattle.monomials.proofs.Order.{same_dp}
+use Rattle.monomials.proofs.Order.{same_dp, turn_up}
 use Rattle.polys.specs.declared.term.Term.{Term}
 use Rattle.polys.specs.Terms.{add, mul}
 use Rattle.polys.specs.Poly.{IsVector}
-use Rattle.polys.proofs.Weights.{turn_up}
 use Rattle.polys.proofs.Merge.{Merged, merge_start, merge_left, merge_right, merge_both, merge_none, merge_end, add_vector, left_at, coeff_at}
 use Rattle.polys.proofs.Products.{degree_at, vector_drop, degree_of-drop}
 use Rattle.module_basis.specs.Division.{term_product}

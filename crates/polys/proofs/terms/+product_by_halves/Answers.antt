@@ -5,7 +5,8 @@ use Rattle.std.specs.Prelude.{IfOk}
 use Rattle.polys.specs.Terms.{EachMono, mul, degree_of}
 use Rattle.polys.specs.Poly.{IsVector, IsPlain}
 use Rattle.polys.proofs.Each.{every_take, every_drop}
-use Rattle.polys.proofs.Products.{vector_take, vector_drop, degree_of-take, degree_of-drop, mul_none, mul_halves, none_from_length}
+use Rattle.polys.proofs.Sums.{mul_none}
+use Rattle.polys.proofs.Products.{vector_take, vector_drop, degree_of-take, degree_of-drop, mul_halves, none_from_length}
 use Rattle.polys.proofs.terms.+product_by_halves.Goals as goal
 
 pub returns-then-b-eq0-clause-value : goal.returns-then-b-eq0-clause-value

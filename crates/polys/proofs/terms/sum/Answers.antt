@@ -2,8 +2,7 @@ use Rattle.std.proofs.Common.{◌≡◌, ℕ, ◌+◌, ◌-◌, ◌≤◌, ◌�
 use Rattle.polys.specs.declared.term.Term.{Term}
 use Rattle.polys.specs.Terms.{add}
 use Rattle.polys.specs.Poly.{IsVector}
-use Rattle.monomials.proofs.Order.{same_dp}
-use Rattle.polys.proofs.Weights.{turn_up}
+use Rattle.monomials.proofs.Order.{same_dp, turn_up}
 use Rattle.polys.proofs.Merge.{Merged, merge_start, merge_left, merge_right, merge_both, merge_none, merge_end, add_vector, left_at, coeff_at}
 use Rattle.polys.proofs.terms.sum.Goals.{then-coeff-ne0+in_ok-push-in-Equal, else-coeff-ne0, then-loop-i-test+else-j-b, else-loop-i-test}
 use Rattle.polys.proofs.terms.sum.Goals as goal

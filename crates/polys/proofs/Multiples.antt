@@ -1,13 +1,13 @@
--- Differences and multiples of vectors, and products with one term.
-use Rattle.std.proofs.Common.{◌≡◌, ℕ, ◌+◌, ◌-◌, ◌*◌, ◌%◌, ◌<◌, List, [], ◌∷◌, ◌++◌, refl, sym, ap, ◌∙◌, arith, append-nil}
+-- Multiples by numbers, and products with one term.
+use Rattle.std.proofs.Common.{◌≡◌, ℕ, ◌+◌, ◌*◌, ◌%◌, ◌<◌, List, [], ◌∷◌, ◌++◌, map, refl, sym, ap, ◌∙◌, arith}
 use native.Mathlib.Nat.{mod-mod}
 use Rattle.std.proofs.lemmas.Nat.{mul-mod}
 use Rattle.monomials.specs.Mono.{Monomial, times, unit}
 use Rattle.polys.specs.declared.term.Term.{Term}
-use Rattle.polys.specs.Terms.{EachMono, normal, add, sub, scaled, multiple, products, mul}
+use Rattle.polys.specs.Terms.{EachMono, normal, add, scaled, multiple, products, mul}
 use Rattle.polys.proofs.Weights.{weigh, Alike, weigh-append, weigh-normal, normal_ext, mod_plus}
-use Rattle.polys.proofs.Sums.{normal_normal, add_comm, add_assoc, add_normal_left, add_normal_right, mul_assoc, mul_comm, add-mul, mul_normal_left, mul_normal_right, weigh-products}
-use Rattle.polys.proofs.Units.{weigh-scaled, sub_self}
+use Rattle.polys.proofs.Sums.{mul_assoc, mul_comm, mul_normal_left, mul_normal_right, weigh-products}
+use Rattle.polys.proofs.Units.{weigh-scaled}
 use Rattle.polys.proofs.Products.{mul-append}
 use Rattle.polys.proofs.Leads.{Seven}
 use Rattle.polys.proofs.Affine.{mul_constant}
@@ -17,8 +17,8 @@ use Rattle.polys.proofs.Affine.{mul_constant}
 pub mod_times : (p c a b : ℕ) → a % p ≡ b % p → (c * a) % p ≡ (c * b) % p
 mod_times p c a b h = mul-mod c a p ∙ (λ i. ((c % p) * h i) % p) ∙ sym (mul-mod c b p)
 
-weigh_multiple : (p c : ℕ) (χ : Monomial → ℕ) (f : List Term) → weigh χ (multiple p c f) % p ≡ (c * weigh χ f) % p
-weigh_multiple p c χ f = weigh-normal p χ (scaled c f) ∙ ap (λ (n : ℕ). n % p) (weigh-scaled χ c f)
+pub weigh-multiple : (p c : ℕ) (χ : Monomial → ℕ) (f : List Term) → weigh χ (multiple p c f) % p ≡ (c * weigh χ f) % p
+weigh-multiple p c χ f = weigh-normal p χ (scaled c f) ∙ ap (λ (n : ℕ). n % p) (weigh-scaled χ c f)
 
 pub multiple-add : (p c : ℕ) (f g : List Term) → multiple p c (add p f g) ≡ add p (multiple p c f) (multiple p c g)
 multiple-add p c f g = normal_ext p (scaled c (add p f g)) (multiple p c f ++ multiple p c g) same
@@ -29,7 +29,7 @@ multiple-add p c f g = normal_ext p (scaled c (add p f g)) (multiple p c f ++ mu
         ap (λ (n : ℕ). n % p) (weigh-scaled χ c (add p f g))
         ∙ mod_times p c (weigh χ (add p f g)) (weigh χ f + weigh χ g) (weigh-normal p χ (f ++ g) ∙ ap (λ (n : ℕ). n % p) (weigh-append χ f g))
         ∙ ap (λ (n : ℕ). n % p) parts
-        ∙ sym (mod_plus p (weigh χ (multiple p c f)) (c * weigh χ f) (weigh χ (multiple p c g)) (c * weigh χ g) (weigh_multiple p c χ f) (weigh_multiple p c χ g))
+        ∙ sym (mod_plus p (weigh χ (multiple p c f)) (c * weigh χ f) (weigh χ (multiple p c g)) (c * weigh χ g) (weigh-multiple p c χ f) (weigh-multiple p c χ g))
         ∙ ap (λ (n : ℕ). n % p) (sym (weigh-append χ (multiple p c f) (multiple p c g)))
 
 pub multiple-mul : (p c : ℕ) (q g : List Term) → mul p (multiple p c q) g ≡ multiple p c (mul p q g)
@@ -48,7 +48,7 @@ multiple_multiple p a c f = normal_ext p (scaled a (multiple p c f)) (scaled (a 
     same χ =
         let assoc : a * (c * weigh χ f) ≡ (a * c) * weigh χ f = omega arith in
         ap (λ (n : ℕ). n % p) (weigh-scaled χ a (multiple p c f))
-        ∙ mod_times p a (weigh χ (multiple p c f)) (c * weigh χ f) (weigh_multiple p c χ f)
+        ∙ mod_times p a (weigh χ (multiple p c f)) (c * weigh χ f) (weigh-multiple p c χ f)
         ∙ ap (λ (n : ℕ). n % p) (assoc ∙ sym (weigh-scaled χ (a * c) f))
 
 pub multiple_residue : (p c d : ℕ) (f : List Term) → c % p ≡ d % p → multiple p c f ≡ multiple p d f
@@ -71,25 +71,6 @@ pub multiple-normal : (p c : ℕ) (f : List Term) → multiple p c (normal p f) 
 multiple-normal p c f =
     normal_ext p (scaled c (normal p f)) (scaled c f)
     (λ χ. ap (λ (n : ℕ). n % p) (weigh-scaled χ c (normal p f)) ∙ mod_times p c (weigh χ (normal p f)) (weigh χ f) (weigh-normal p χ f) ∙ ap (λ (n : ℕ). n % p) (sym (weigh-scaled χ c f)))
-
--- ---- differences
-
-pub from_sub : (p : ℕ) (x y z : List Term) → 0 < p → sub p x y ≡ z → normal p x ≡ add p y z
-from_sub p x y z h e =
-    sym (ap (add p y) (sym e)
-    ∙ sym (add_assoc p y x (multiple p (p - 1) y))
-    ∙ ap (λ w. add p w (multiple p (p - 1) y)) (add_comm p y x)
-    ∙ add_assoc p x y (multiple p (p - 1) y)
-    ∙ ap (add p x) (sub_self p y h)
-    ∙ ap (normal p) (append-nil x))
-
-pub to_sub : (p : ℕ) (x y z : List Term) → 0 < p → normal p x ≡ add p y z → sub p x y ≡ normal p z
-to_sub p x y z h e =
-    sym (add_normal_left p x (multiple p (p - 1) y))
-    ∙ ap (λ w. add p w (multiple p (p - 1) y)) (e ∙ add_comm p y z)
-    ∙ add_assoc p z y (multiple p (p - 1) y)
-    ∙ ap (add p z) (sub_self p y h)
-    ∙ ap (normal p) (append-nil z)
 
 -- ---- products with a term
 
@@ -140,48 +121,3 @@ mul_number p c f h =
     mul_comm p f (record { coeff = c; mono = unit } ∷ [])
     ∙ sym (mul_normal_left p (record { coeff = c; mono = unit } ∷ []) f)
     ∙ mul_constant p c f h
-
--- ---- chains of differences
-
-pub sub_chain : (p : ℕ) (x y w z z' : List Term) → 0 < p → sub p x y ≡ z → sub p y w ≡ z' → sub p x w ≡ add p z' z
-sub_chain p x y w z z' h e k =
-    to_sub p x w (add p z' z) h
-    (from_sub p x y z h e
-    ∙ sym (add_normal_left p y z)
-    ∙ ap (λ v. add p v z) (from_sub p y w z' h k)
-    ∙ add_assoc p w z' z)
-    ∙ normal_normal p (z' ++ z)
-
-pub sub_swap : (p : ℕ) (x y z : List Term) → 0 < p → sub p x y ≡ z → sub p y x ≡ multiple p (p - 1) z
-sub_swap p x y z h e =
-    to_sub p y x (multiple p (p - 1) z) h
-    (sym (sym (add_normal_left p x (multiple p (p - 1) z))
-    ∙ ap (λ v. add p v (multiple p (p - 1) z)) (from_sub p x y z h e)
-    ∙ add_assoc p y z (multiple p (p - 1) z)
-    ∙ ap (add p y) (sub_self p z h)
-    ∙ ap (normal p) (append-nil y)))
-    ∙ normal_normal p (scaled (p - 1) z)
-
--- a term that both have drops out
-pub sub_cons : (p : ℕ) (t : Term) (x y : List Term) → 0 < p → sub p (t ∷ x) (t ∷ y) ≡ sub p x y
-sub_cons p t x y h =
-    to_sub p (t ∷ x) (t ∷ y) (sub p x y) h
-    (sym (add_normal_right p (t ∷ []) x)
-    ∙ ap (add p (t ∷ [])) (from_sub p x y (sub p x y) h refl)
-    ∙ sym (add_assoc p (t ∷ []) y (sub p x y))
-    ∙ add_normal_left p (t ∷ y) (sub p x y))
-    ∙ normal_normal p (x ++ multiple p (p - 1) y)
-
--- a difference times a number
-pub sub_times : (p c : ℕ) (x y z : List Term) → 0 < p → sub p x y ≡ z → multiple p c x ≡ add p (multiple p c y) (multiple p c z)
-sub_times p c x y z h e = sym (multiple-normal p c x) ∙ ap (multiple p c) (from_sub p x y z h e) ∙ multiple-add p c y z
-
--- a difference of products with a term
-pub sub_by : (p : ℕ) (x y z : List Term) (u : Term) → 0 < p → sub p x y ≡ z → sub p (mul p x (u ∷ [])) (mul p y (u ∷ [])) ≡ mul p z (u ∷ [])
-sub_by p x y z u h e =
-    to_sub p (mul p x (u ∷ [])) (mul p y (u ∷ [])) (mul p z (u ∷ [])) h
-    (normal_normal p (products x (u ∷ []))
-    ∙ sym (mul_normal_left p x (u ∷ []))
-    ∙ ap (λ v. mul p v (u ∷ [])) (from_sub p x y z h e)
-    ∙ add-mul p y z (u ∷ []))
-    ∙ normal_normal p (products z (u ∷ []))
