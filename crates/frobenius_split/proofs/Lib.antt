@@ -8,3 +8,4 @@ pub mod EachLaws
 pub mod PartLaws
 pub mod AllMaximal
 pub mod Relations
+pub mod Worked

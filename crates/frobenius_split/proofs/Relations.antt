@@ -1,16 +1,27 @@
 -- A relation of the powers of an element modulo an ideal is a polynomial in the ideal.
-use Rattle.std.proofs.Common.{◌≡◌, ◌⊎◌, inl, inr, sym, ap, subst, ℕ, zero, suc, ◌+◌, ◌<◌, List, [], ◌∷◌, length, get_or, arith}
+use Rattle.std.proofs.Common.{◌≡◌, ◌⊎◌, inl, inr, sym, ap, subst, ◌∙◌, ℕ, zero, suc, ◌+◌, ◌<◌, List, [], ◌∷◌, ◌++◌, length, get_or, arith, length-append}
+use native.Mathlib.Decide.{ℕ_discrete}
+use Rattle.std.proofs.lemmas.List.{get_or_append_left, get_or_push}
 use Rattle.prime_field.specs.Primes.{IsPrime}
 use Rattle.comm_ring.specs.Ring.{CommRing, pow, number}
-use Rattle.comm_ring.specs.Modules.{InSpan, combination}
+use Rattle.comm_ring.specs.Modules.{InSpan, combine, combination}
 use Rattle.comm_ring.specs.Ideals.{IsIdeal}
 use Rattle.comm_ring.proofs.Derived as Derived
 use Rattle.comm_ring.proofs.Quote.{ring, ring_by, fact, quote}
 use Rattle.row_space.specs.Subspace.{Subspace, IsIn, DifferIn, IsZero, product}
 use Rattle.finite_algebra.specs.Elements.{FiniteAlgebra, IsAlgebra, elements, ring_of}
 use Rattle.finite_algebra.specs.Projections.{IsIdealOf}
-use Rattle.frobenius_split.specs.Parts.{polynomial}
+use Rattle.frobenius_split.specs.Parts.{AreProducts, polynomial}
 use Rattle.frobenius_split.proofs.Ground as Ground
+use Rattle.frobenius_split.proofs.GraphLaws.{product-times}
+use Rattle.frobenius_split.proofs.SplitLaws.{power_next}
+
+-- an image does not depend on how its parts are written
+pub image_of : (p p' n n' : ℕ) (v v' : List ℕ) (matrix : List (List ℕ)) (w : List ℕ) → w ≡ product p n v matrix → p ≡ p' → n ≡ n' → v ≡ v' → w ≡ product p' n' v' matrix
+image_of p p' n n' v v' matrix w e a b d = e ∙ ap (λ q. product q n v matrix) a ∙ ap (λ k. product p' k v matrix) b ∙ ap (λ x. product p' n' x matrix) d
+
+pub zero_of : (p p' n n' : ℕ) (v : List ℕ) (matrix matrix' : List (List ℕ)) → IsZero p n (product p n v matrix) → p ≡ p' → n ≡ n' → matrix ≡ matrix' → IsZero p' n' (product p' n' v matrix')
+zero_of p p' n n' v matrix matrix' z a b d = subst (λ m. IsZero p' n' (product p' n' v m)) d (subst (λ k. IsZero p' k (product p' k v matrix)) b (subst (λ q. IsZero q n (product q n v matrix)) a z))
 
 module _ (A : FiniteAlgebra) (prime : IsPrime A.prime) (a : IsAlgebra A) where
   abbrev R : CommRing
@@ -47,6 +58,7 @@ module _ (A : FiniteAlgebra) (prime : IsPrime A.prime) (a : IsAlgebra A) where
     -- rows that are the powers from s on, combined, are u^s times the polynomial, up to members
     relation : (s : ℕ) (cs : List ℕ) (rs : List (List ℕ)) → length cs ≡ length rs → ((i : ℕ) → i < length rs → DifferIn J (get_or rs i []) (power u (s + i)))
         → In (combination (elements A) cs rs ⊕ neg (power u s ⊗ polynomial A cs u))
+    unfolding combine
     relation s [] [] e h = ideal.resp _ _ (nothing_ring (power u s)) ideal.none
     relation s [] (r ∷ rs) e h = absurd (omega arith)
     relation s (c ∷ cs) [] e h = absurd (omega arith)
@@ -69,3 +81,25 @@ module _ (A : FiniteAlgebra) (prime : IsPrime A.prime) (a : IsAlgebra A) where
     vanishing_law rows h cs (inr w) = Ground.outward A prime a J q _
         (ideal.resp _ _ (whole_ring (power u 0) (combination (elements A) cs rows) (polynomial A cs u) w.1 (no_power u))
         (ideal.scale (neg 𝟙) _ (relation 0 cs rows w.0 (λ i l. subst (λ n. DifferIn J (get_or rows i []) (power u n)) (let k : i ≡ 0 + i = omega arith in k) (h i l)))))
+
+  -- one more row
+  pub powers_pushed : (J : Subspace) (rows new : List (List ℕ)) (x u : List ℕ) → new ≡ rows ++ x ∷ [] → DifferIn J x (power u (length rows)) → ((i : ℕ) → i < length rows → DifferIn J (get_or rows i []) (power u i))
+      → (i : ℕ) → i < length new → DifferIn J (get_or new i []) (power u i)
+  powers_pushed J rows new x u pushed last all i l = subst (λ r. DifferIn J (get_or r i []) (power u i)) (sym pushed) (each i (let k : i < suc (length rows) = long in k) (ℕ_discrete i (length rows)))
+    where
+      long : i < suc (length rows)
+      long = omega (arith, ap length pushed, length-append rows (x ∷ []))
+
+      each : (i : ℕ) → i < suc (length rows) → Dec (i ≡ length rows) → DifferIn J (get_or (rows ++ x ∷ []) i []) (power u i)
+      each i l (yes e) = subst (λ r. DifferIn J r (power u i)) (sym (get_or_push rows x [] i (sym e))) (subst (λ n. DifferIn J x (power u n)) (sym e) last)
+      each i l (no n) =
+          let inside : i < length rows = omega arith in
+          subst (λ r. DifferIn J r (power u i)) (sym (get_or_append_left rows (x ∷ []) [] i inside)) (all i inside)
+
+  -- and the next power
+  pub next_power : (J : Subspace) → IsIdealOf A J → (table rows new : List (List ℕ)) (x next made : List ℕ) → next ≡ product A.prime A.dimension x table → new ≡ rows ++ x ∷ [] → DifferIn J next made
+      → (u : List ℕ) → AreProducts A u table → DifferIn J x (power u (length rows)) → DifferIn J made (power u (length new))
+  next_power J q table rows new x next made is pushed same u products last =
+      let long : suc (length rows) ≡ length new = omega (arith, ap length pushed, length-append rows (x ∷ [])) in
+      let times_u : next ≈ x ⊗ u = R.trans (Derived.of_path R is) (product-times A prime a u table products x) in
+      subst (λ n. DifferIn J made (power u n)) long (power_next A prime a J q u x next made (length rows) times_u last same)

@@ -20,10 +20,8 @@ fn pair(alloc: Global, left: &[u32], right: &[u32]) -> Result<Vec<u32>, NoMemory
     ensures { IfOk result (λ row. row.items ≡ left.now ++ right.now) }
 {
     let mut row = copy_of(alloc, left)?;
-    match row.extend_from_slice(right) {
-        Ok(()) => Ok(row),
-        Err(_) => Err(NoMemory),
-    }
+    row.extend_from_slice(right)?;
+    Ok(row)
 }
 
 // The halves of the row times the two matrices.
@@ -182,12 +180,7 @@ fn opposite_right(
 }
 
 // The p-th power of the basis element k, if the graph tells it.
-fn told(
-    alloc: Global,
-    a: &Algebra,
-    graph: &Space,
-    k: usize,
-) -> Result<Option<List<u32>>, NoMemory>
+fn told(alloc: Global, a: &Algebra, graph: &Space, k: usize) -> Result<Option<List<u32>>, NoMemory>
     requires graph { IsGraph a.now graph.now }
     requires k { k < a.now.dimension }
     ensures { IfOk result (λ found. MatchOption found (Unit {0}) (λ row. IsPowerOfUnit a.now k row)) }
@@ -203,12 +196,7 @@ fn told(
 }
 
 // The p-th power of the basis element k, from the graph or by multiplying; then the graph gains it.
-fn found(
-    alloc: Global,
-    a: &Algebra,
-    graph: &mut Space,
-    k: usize,
-) -> Result<List<u32>, NoMemory>
+fn found(alloc: Global, a: &Algebra, graph: &mut Space, k: usize) -> Result<List<u32>, NoMemory>
     requires graph { IsGraph a.now graph.old }
     requires k { k < a.now.dimension }
     ensures graph { OnOk result (IsGraph a.now graph.new) }

@@ -16,19 +16,13 @@ use std::alloc::Global;
 pub(crate) fn copy_of(alloc: Global, row: &[u32]) -> Result<Vec<u32>, NoMemory>
     ensures { IfOk result (λ v. v.items ≡ row.now) }
 {
-    match row.to_vec(alloc) {
-        Ok(copy) => Ok(copy),
-        Err(_) => Err(NoMemory),
-    }
+    Ok(row.to_vec(alloc)?)
 }
 
 pub(crate) fn zero_row(alloc: Global, length: usize) -> Result<Vec<u32>, NoMemory>
     ensures { IfOk result (λ row. row.items ≡ replicate length 0) }
 {
-    match vec![in alloc; 0u32; length] {
-        Ok(row) => Ok(row),
-        Err(_) => Err(NoMemory),
-    }
+    Ok(vec![in alloc; 0u32; length]?)
 }
 
 // The row with 1 at the place k.
@@ -73,7 +67,13 @@ pub(crate) fn multiplication(
 }
 
 // The row with c taken off at the place k.
-fn less_at(alloc: Global, prime: Prime, row: &[u32], k: usize, c: u32) -> Result<List<u32>, NoMemory>
+fn less_at(
+    alloc: Global,
+    prime: Prime,
+    row: &[u32],
+    k: usize,
+    c: u32,
+) -> Result<List<u32>, NoMemory>
     requires c { c < prime }
     requires k { k < length row.now }
     requires row { AreResidues prime row.now }

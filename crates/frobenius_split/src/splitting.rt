@@ -6,12 +6,12 @@ ghost use Rattle.row_space.specs.Subspace.{IsIn, Subspace};
 ghost use Rattle.finite_algebra.specs.Elements.{IsElement, elements, ring_of};
 ghost use Rattle.finite_algebra.specs.Projections.{IsIdealOf};
 ghost use Rattle.frobenius_split.specs.Points.{IsRadicalOf, IsMaximalIdeal, AreMaximalIdeals, at};
-ghost use Rattle.frobenius_split.specs.Parts.{AreProducts, AreFixed, AreParts, ArePartsOf, AreSplitTo, HasNoValue, HasValue, IsNext, IsPart, IsPartAt, Adds, polynomial};
+ghost use Rattle.frobenius_split.specs.Parts.{AreProducts, AreProductsOfFixed, AreFixed, AreParts, ArePartsOf, AreSplitTo, HasImproperPart, HasNoValue, HasValue, IsNext, IsPart, IsPartOf, Adds, polynomial};
 
 use super::frobenius::{fixed_elements, nilpotent_elements};
 use super::graph::powers;
-use super::polynomials::{value_at, vanishing};
 use super::parts_are_maximal;
+use super::polynomials::{value_at, vanishing};
 use super::rows::{add_rows, copy_of, less_scalar, multiplication};
 use finite_algebra::Algebra;
 use lane_rows::first_nonzero;
@@ -99,9 +99,9 @@ fn part_at(
     c: u32,
 ) -> Result<Space, NoMemory>
     requires ideal { IsIdealOf a.now ideal.now }
-    requires table { (u : List ℕ) × AreProducts a.now u table.now × (elements a.now).◌≋◌ (pow (ring_of a.now) u a.now.prime) u }
+    requires table { AreProductsOfFixed a.now table.now }
     requires c { c < a.now.prime }
-    ensures { IfOk result (λ part. (u : List ℕ) → AreProducts a.now u table.now → (elements a.now).◌≋◌ (pow (ring_of a.now) u a.now.prime) u → IsPartAt a.now ideal.now u c part) }
+    ensures { IfOk result (λ part. IsPartOf a.now ideal.now table.now c part) }
 {
     let _one = a.one();
     let _p = a.prime().get();
@@ -120,9 +120,9 @@ fn proper_part(
     c: u32,
 ) -> Result<Option<Space>, NoMemory>
     requires ideal { IsIdealOf a.now ideal.now }
-    requires table { (u : List ℕ) × AreProducts a.now u table.now × (elements a.now).◌≋◌ (pow (ring_of a.now) u a.now.prime) u }
+    requires table { AreProductsOfFixed a.now table.now }
     requires c { c < a.now.prime }
-    ensures { IfOk result (λ found. MatchOption found ((u : List ℕ) → AreProducts a.now u table.now → (elements a.now).◌≋◌ (pow (ring_of a.now) u a.now.prime) u → (part : Subspace) × IsPartAt a.now ideal.now u c part × IsIn part a.now.one) (λ part. ((u : List ℕ) → AreProducts a.now u table.now → (elements a.now).◌≋◌ (pow (ring_of a.now) u a.now.prime) u → IsPartAt a.now ideal.now u c part) × ¬ (IsIn part a.now.one))) }
+    ensures { IfOk result (λ found. MatchOption found (HasImproperPart a.now ideal.now table.now c) (λ part. IsPartOf a.now ideal.now table.now c part × ¬ (IsIn part a.now.one))) }
 {
     let _one = a.one();
     let _p = a.prime().get();
@@ -239,12 +239,10 @@ fn split(
 fn put_together(into: List<Space>, more: List<Space>) -> Result<List<Space>, NoMemory>
     ensures { IfOk result (λ whole. whole ≡ into ++ more) }
 {
-    let mut items = into.into_vec();
-    let mut rest = more.into_vec();
-    match items.append(&mut rest) {
-        Ok(()) => Ok(List::of_vec(items)),
-        Err(_) => Err(NoMemory),
-    }
+    let mut whole = into;
+    let mut rest = more;
+    whole.append(&mut rest)?;
+    Ok(whole)
 }
 
 // The parts of each of the ideals by the values of the element k.
