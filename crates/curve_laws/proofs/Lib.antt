@@ -24,3 +24,6 @@ pub mod StepLaws
 pub mod FewerLaws
 pub mod GeneratorLaws
 pub mod PointSetLaws
+-- for the examples alone
+mod CuspDimension
+mod CuspRings

@@ -17,7 +17,7 @@ ghost use Rattle.curve_model.specs.Closing.{ClosureIsExact, ClosureIsIntegral, C
 ghost use Rattle.curve_model.specs.Generators.{OneIdealOneClosure};
 ghost use Rattle.curve_model.specs.OneDelta.{DeltaIsUnique, FewerAreIndependent};
 ghost use Rattle.curve_model.specs.OneExponent.{OneExponent, NumeratorsDecideIndependence, NumeratorsAreBasis};
-ghost use Rattle.curve_model.specs.PointSets.{LocalAtGrows, SumsDependOnTheSet};
+ghost use Rattle.curve_model.specs.PointSets.{LocalAtGrows, SumsDependOnTheSet, PointsAreFew, FitCurvesHaveFewPoints};
 ghost use Rattle.curve_model.specs.Steps.{
   FitIsFinite,
   LocalRingIsItsModule,
@@ -27,7 +27,7 @@ ghost use Rattle.curve_model.specs.Steps.{
   EqualDimensionsAreEqual,
   SumsGrow,
 };
-ghost use Rattle.curve_model.specs.Quotient.{CoordinatesAreUnique, MembershipIsDecided, PowersHaveDimension};
+ghost use Rattle.curve_model.specs.Quotient.{CoordinatesAreUnique, MembershipIsDecided, BasesCountDimension, PowersHaveDimension};
 
 /// Equal fractions are integral together, and local at a list of polynomials together.
 pub fn equal_fractions_agree()
@@ -83,11 +83,12 @@ pub fn full_rings_have_the_local_fractions()
     ensures { DescentLaw }
 {}
 
-/// Modulo an ideal of finite dimension coordinates by a shortest spanning list are unique, and membership is decided;
-/// modulo I and d^t the dimension is t times that modulo I and d.
+/// Modulo an ideal of finite dimension coordinates by a shortest spanning list are unique, and membership is decided; a list
+/// that spans and is independent counts the dimension; modulo I and d^t it is t times that modulo I and d.
 pub fn finite_quotients_have_coordinates()
     ensures unique { CoordinatesAreUnique }
     ensures decided { MembershipIsDecided }
+    ensures bases { BasesCountDimension }
     ensures powers { PowersHaveDimension }
 {}
 
@@ -164,4 +165,10 @@ pub fn one_ideal_has_one_closure()
 pub fn points_are_a_set()
     ensures grows { LocalAtGrows }
     ensures sums { SumsDependOnTheSet }
+{}
+
+/// Distinct points are at most the dimension modulo the denominator, so on a fit curve at most 256.
+pub fn points_are_few()
+    ensures few { PointsAreFew }
+    ensures fit { FitCurvesHaveFewPoints }
 {}

@@ -5,4 +5,5 @@
 //! `point_laws` apply.
 #![tactic(auto)]
 
+pub mod examples;
 pub mod laws;

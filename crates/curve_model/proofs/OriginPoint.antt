@@ -24,7 +24,7 @@ use Rattle.curve_model.proofs.Origin.{is_zero, at_one, value, Vanishes, vanishes
 use Rattle.curve_model.proofs.Cusp.{poly_of_term}
 use Rattle.curve_model.proofs.TwoVariables.{mono_of, exponents_of, at_one-unit, holds_x, holds_y, origin_polys, weigh-constant, Split, split, member_poly, vanishing_member}
 
-seven_is_prime : IsPrime 7
+pub seven_is_prime : IsPrime 7
 seven_is_prime = characteristics-are_prime 7 refl
 
 -- ---- leads of members

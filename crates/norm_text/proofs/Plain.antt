@@ -15,7 +15,7 @@ use Rattle.curve_model.specs.Closure.{Closure}
 use Rattle.curve_laws.proofs.SplitLaws.{none_law}
 use Rattle.curve_model.proofs.UnitDenominator.{units_close_nothing}
 use Rattle.polys.specs.Curve.{CurveData}
-use Rattle.singular_text.specs.Problem.{curve_of}
+use Rattle.problem.specs.Problem.{curve_of}
 use Rattle.norm_text.specs.Answers.{named_number}
 use Rattle.norm_text.specs.Plain.{PlainAnswers}
 
