@@ -1,3 +1,5 @@
 -- for the examples alone
 mod CuspDimension
 mod CuspRings
+mod CuspOrders
+mod CuspPower

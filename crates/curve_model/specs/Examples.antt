@@ -7,7 +7,7 @@ use Rattle.curve_model.specs.Fraction.{Fraction, IsFraction, InA, over}
 use Rattle.curve_model.specs.Integral.{Integral}
 use Rattle.curve_model.specs.Local.{Local}
 use Rattle.curve_model.specs.Point.{IsPoint, HasDegree}
-use Rattle.curve_model.specs.Closure.{InModule}
+use Rattle.curve_model.specs.Closure.{Suffices, InModule}
 use Rattle.curve_model.specs.Rings.{IsFull}
 
 -- c x^i y^j
@@ -53,6 +53,10 @@ OriginHasDegreeOne = HasDegree cusp origin 1
 -- x y over d is local at the origin
 abbrev pub ProductIsLocal : Type 0
 ProductIsLocal = Local cusp origin (over (term_of 1 1 1 ∷ []) 1)
+
+-- the fractions local at the origin equal some b over d, and not all of them some b over 1
+abbrev pub CuspNeedsOnePower : Type 0
+CuspNeedsOnePower = Suffices cusp (origin ∷ []) 1 × (Suffices cusp (origin ∷ []) 0 → ⊥)
 
 -- A itself does not hold every fraction that takes its radical at the origin into itself
 abbrev pub CuspIsNotFull : Type 0
