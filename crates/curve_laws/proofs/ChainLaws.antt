@@ -11,7 +11,7 @@ use Rattle.polys.specs.Terms.{IsPoly, one, product}
 use Rattle.polys.specs.Ideal.{InIdeal}
 use Rattle.polys.specs.Curve.{CurveData}
 use Rattle.polys.proofs.Affine.{positive}
-use Rattle.polys.proofs.Ideals.{in_poly}
+use Rattle.ideal_laws.proofs.Ideals.{in_poly}
 use Rattle.curve_model.specs.Fraction.{Fraction, IsFraction, InA, over, sum_of, product_of, multiple_of}
 use Rattle.curve_model.specs.Local.{Local, LocalAt, AreMembers, TakesIntoA}
 use Rattle.curve_model.specs.Point.{IsPoint}

@@ -17,7 +17,7 @@ use Rattle.polys.specs.declared.term.Term.{Term}
 use Rattle.polys.specs.Terms.{IsPoly, power}
 use Rattle.polys.specs.Curve.{CurveData}
 use Rattle.polys.proofs.Affine.{poly_power, positive}
-use Rattle.polys.proofs.Ideals.{in_poly}
+use Rattle.ideal_laws.proofs.Ideals.{in_poly}
 use Rattle.curve_model.specs.Fraction.{Fraction, IsFraction, over, sum_of, product_of}
 use Rattle.curve_model.specs.Closure.{InModule}
 use Rattle.curve_model.specs.Laws.{IsFinite, ArePolys, power_of}

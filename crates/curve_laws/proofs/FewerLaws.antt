@@ -6,7 +6,7 @@ use Rattle.polys.specs.Terms.{multiple, put, mul, sub}
 use Rattle.polys.specs.Ideal.{InIdeal}
 use Rattle.polys.specs.Curve.{CurveData}
 use Rattle.polys.proofs.Affine.{poly_none}
-use Rattle.polys.proofs.Ideals.{in_none}
+use Rattle.ideal_laws.proofs.Ideals.{in_none}
 use Rattle.curve_model.specs.Fraction.{Fraction, IsFraction, InA, denominator_power, sum_of, multiple_of}
 use Rattle.curve_model.specs.Local.{Local, LocalAt}
 use Rattle.curve_model.specs.Delta as Delta

@@ -13,7 +13,7 @@ use Rattle.polys.specs.declared.term.Term.{Term}
 use Rattle.polys.specs.Terms.{IsPoly, mul, product, one}
 use Rattle.polys.specs.Ideal.{InIdeal}
 use Rattle.polys.specs.Curve.{CurveData}
-use Rattle.polys.proofs.Unique.{unique_law}
+use Rattle.ideal_laws.proofs.Unique.{unique_law}
 use Rattle.curve_model.specs.Fraction.{Fraction, IsFraction, denominator_power}
 use Rattle.curve_model.specs.Local.{AreMembers, LocalAt}
 use Rattle.curve_model.specs.Point.{IsPoint}

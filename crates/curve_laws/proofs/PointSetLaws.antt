@@ -1,24 +1,27 @@
--- What is local at a list of points depends on the set of points alone.
-use Rattle.std.proofs.Common.{◌≡◌, ◌⊎◌, inl, inr, ℕ, ◌<◌, List, [], ◌∷◌, map, All, sym, subst, arith}
+-- Sets of points: what is local at them depends on the set alone, and distinct points are few.
+use Rattle.std.proofs.Common.{◌≡◌, ◌⊎◌, inl, inr, ℕ, suc, ◌<◌, ◌≤◌, List, [], ◌∷◌, map, length, All, refl, sym, ap, subst, arith}
 use Rattle.std.specs.List.{AllZip, Contains}
 use Rattle.std.proofs.lemmas.List.Elements.{All-head, All-tail}
+use Rattle.fraction_laws.proofs.CurveLaws as CurveLaws
 use Rattle.polys.specs.declared.term.Term.{Term}
 use Rattle.polys.specs.Terms.{IsPoly, mul, product, one}
 use Rattle.polys.specs.Ideal.{InIdeal}
-use Rattle.polys.specs.Curve.{CurveData}
+use Rattle.polys.specs.Curve.{CurveData, data_of}
 use Rattle.polys.proofs.Sums.{mul_assoc, mul_comm}
 use Rattle.polys.proofs.Units.{mul_one}
 use Rattle.polys.proofs.Affine.{poly_none, poly_one, poly_mul, sevens_of}
-use Rattle.polys.proofs.Ideals.{in_mul, in_none}
-use Rattle.polys.proofs.Unique.{contains_cases, contains_none, contains_head, contains_tail}
+use Rattle.ideal_laws.proofs.Ideals.{in_mul, in_none}
+use Rattle.ideal_laws.proofs.Unique.{contains_cases, contains_none, contains_head, contains_tail}
 use Rattle.curve_model.specs.Fraction.{Fraction, IsFraction, InA, denominator_power, sum_of}
 use Rattle.curve_model.specs.Local.{Local, LocalAt, AreMembers, TakesIntoA}
 use Rattle.curve_model.specs.Laws.{IsFinite, ArePolys, SumOfParts, total}
-use Rattle.curve_model.specs.PointSets.{LocalAtGrows, SumsDependOnTheSet}
-use Rattle.curve_laws.proofs.Base.{high}
+use Rattle.curve_model.specs.PointSets.{LocalAtGrows, SumsDependOnTheSet, PointsAreFew, FitCurvesHaveFewPoints}
+use Rattle.curve_laws.proofs.Base.{high, Ring, I, d}
 use Rattle.curve_laws.proofs.LocalRingLaws.{local_ring_law}
 use Rattle.curve_laws.proofs.Locals.{members_poly}
-use Rattle.curve_laws.proofs.ManyPoints.{polys_of_points}
+use Rattle.curve_laws.proofs.ManyPoints.{lift_all, polys_of_points, distinct_up}
+use Rattle.curve_laws.proofs.Scalars.{scalar, dimension, point_laws}
+use Rattle.curve_laws.proofs.StepLaws.{fit_law}
 use Rattle.curve_laws.proofs.StatedLaws.{sum_poly}
 use Rattle.curve_laws.proofs.Regulars.{turn_equal}
 use Rattle.curve_laws.proofs.SplitLaws.{none_law, parts_law, total_poly}
@@ -104,3 +107,23 @@ sets_law A c S T s t same f h = (
   (λ w. (parts_law A c T t f h).0 (sum_at A c T (polys_of_points A c T t.points) S (λ P k. (same P).1 k) f h w)),
   λ w. (parts_law A c S s f h).0 (sum_at A c S (polys_of_points A c S s.points) T (λ P k. (same P).0 k) f h w),
 )
+
+-- ---- how many points there are
+
+length-lift_all : (A : CurveData) (c : IsFinite A) (S : List (List (List Term))) (a : All (ArePolys A) S) → length (lift_all A c S a) ≡ length S
+unfolding lift_all
+length-lift_all A c [] a = refl
+length-lift_all A c (P ∷ S) a = ap suc (length-lift_all A c S (All-tail (ArePolys A) P S a))
+
+pub few_law : PointsAreFew
+few_law A r N D S h =
+    let c : IsFinite A = record { curve = r; dimension = (N, D) } in
+    let q = polys_of_points A c S h.points in
+    subst (λ k. k ≤ N) (length-lift_all A c S q)
+    ((point_laws A c).few N (CurveLaws.dimension_of_curve (Ring A r) (I A r) (scalar A c) (d A r) N (dimension A c)) (lift_all A c S q) (distinct_up A c S q h))
+
+pub fit_few_law : FitCurvesHaveFewPoints
+fit_few_law c prime fit S h =
+    let l : length S ≤ fit.finite.0 = few_law (data_of c) (fit_law c prime fit).curve fit.finite.0 fit.finite.2 S h in
+    let most : fit.finite.0 ≤ 256 = fit.finite.1 in
+    omega arith

@@ -17,7 +17,7 @@ ghost use Rattle.curve_model.specs.Closing.{ClosureIsExact, ClosureIsIntegral, C
 ghost use Rattle.curve_model.specs.Generators.{OneIdealOneClosure};
 ghost use Rattle.curve_model.specs.OneDelta.{DeltaIsUnique, FewerAreIndependent};
 ghost use Rattle.curve_model.specs.OneExponent.{OneExponent, NumeratorsDecideIndependence, NumeratorsAreBasis};
-ghost use Rattle.curve_model.specs.PointSets.{LocalAtGrows, SumsDependOnTheSet};
+ghost use Rattle.curve_model.specs.PointSets.{LocalAtGrows, SumsDependOnTheSet, PointsAreFew, FitCurvesHaveFewPoints};
 ghost use Rattle.curve_model.specs.Steps.{
   FitIsFinite,
   LocalRingIsItsModule,
@@ -164,4 +164,10 @@ pub fn one_ideal_has_one_closure()
 pub fn points_are_a_set()
     ensures grows { LocalAtGrows }
     ensures sums { SumsDependOnTheSet }
+{}
+
+/// Distinct points are at most the dimension modulo the denominator, so on a fit curve at most 256.
+pub fn points_are_few()
+    ensures few { PointsAreFew }
+    ensures fit { FitCurvesHaveFewPoints }
 {}

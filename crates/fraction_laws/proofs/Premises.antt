@@ -34,7 +34,7 @@ module _ (Q : CommRing) (p : ℕ) (prime : IsPrime p) (scalar : ℕ → Q.carrie
   infix 40 ◌≈◌
   infixl 60 ◌⊕◌
   infixl 70 ◌⊗◌
-  positive : 0 < p
+  pub positive : 0 < p
   positive = positive_of_prime p prime
 
   pub scalar-zero : scalar 0 ≈ 𝟘
@@ -99,7 +99,7 @@ module _ (Q : CommRing) (p : ℕ) (prime : IsPrime p) (scalar : ℕ → Q.carrie
     abbrev pub Space : ModuleOps ℕ
     Space = modulo (module_through ops scalar) (InIdeal ops (d ∷ []))
 
-    abbrev space : Module (residues p positive)
+    abbrev pub space : Module (residues p positive)
     space = quotient (residues p positive) (through (residues p positive) Q scalar m) (InIdeal ops (d ∷ [])) submodule
 
     spanned_in : (us : List carrier) (f : carrier) → InSpan Space us f → Spanned ops p scalar d us f

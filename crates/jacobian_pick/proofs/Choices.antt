@@ -12,19 +12,19 @@ use Rattle.polys.specs.Poly.{Polynomial}
 use Rattle.polys.specs.Reduced.{IsReducedBasis}
 use Rattle.polys.specs.Terms.{IsCanonical, IsPoly, IsMonicOf, mul, degree_of, one}
 use Rattle.polys.proofs.Affine.{affine_unit}
-use Rattle.polys.proofs.Ideals.{in_head, in_more, in_generator, in_larger, in_poly}
+use Rattle.ideal_laws.proofs.Ideals.{in_head, in_more, in_generator, in_larger, in_poly}
 use Rattle.denominator_module.proofs.Firsts.{all_from}
 use Rattle.module_basis.specs.Gens.{term_lists}
 use Rattle.denominator_module.specs.Module.{IsDeepDenominator}
 use Rattle.lift_colon.specs.Lifted.{LiftedData, IsLifted}
-use Rattle.singular_text.specs.declared.problem.Problem.{Problem}
-use Rattle.singular_text.specs.Problem.{ProblemData, curve_of}
+use Rattle.problem.specs.declared.problem.Problem.{Problem}
+use Rattle.problem.specs.Problem.{ProblemData, curve_of, IsFit, IsReady, problem_data}
 use Rattle.jacobian_pick.specs.Candidates.{AreCandidates}
 use Rattle.jacobian_pick.specs.Choice.{HasDeepIdeal, HasProperIdeal, HasDeepModule, IsInfinite, IsGood, IsFirstGood, IsChosen, IsChosenBy, HasNoDenominator, IsReason, IsCause, IsLiftedOf, IsFound, IsPicked, curve_of_lifted}
-use Rattle.jacobian_pick.specs.Lists.{IsBasisOf, IsReady, IsUpTo, problem_data}
+use Rattle.jacobian_pick.specs.Lists.{IsBasisOf, IsUpTo}
 use Rattle.jacobian_pick.specs.declared.choosing.PickStop.{PickStop}
 use Rattle.jacobian_pick.specs.declared.choosing.PickStop.TheVariants.{Deep, Unit, DenominatorDeep, ZeroDivisor, Infinite, Wide, NoDenominator, Memory}
-use Rattle.jacobian_pick.proofs.Memberships.{monic_low, next}
+use Rattle.jacobian_pick.proofs.Memberships.{monic_low, next, fit_up_to, fits_up_to}
 
 -- ---- ideals with the same members have the same dimension
 
@@ -76,7 +76,7 @@ module _ (problem : Problem) (prime : IsPrime problem.prime) (ready : IsReady pr
   two = let h = prime.0 in omega arith
 
   polys : All (IsPoly problem.prime (length problem.letters)) (term_lists problem.generators)
-  polys = polys_of problem.prime (length problem.letters) 60 problem.generators ready.generators
+  polys = polys_of problem.prime (length problem.letters) 60 problem.generators (fits_up_to problem.prime (length problem.letters) problem.generators ready.generators)
 
   into : (f : List Term) → InIdeal problem.prime (length problem.letters) (term_lists problem.generators) f → InIdeal problem.prime (length problem.letters) (term_lists l.ideal) f
   into f r = (basis.exact f (in_poly problem.prime (length problem.letters) (term_lists problem.generators) f (let t = two in omega arith) polys r)).1 r
@@ -141,7 +141,8 @@ reason_is_bad problem cap d Memory m r g = m refl
 pub handed_over : (problem : Problem) (d m : Polynomial) → IsPrime problem.prime → IsReady problem → problem.denominator ≡ Some d → m.prime ≡ d.prime → IsMonicOf d.prime d.terms m.terms
     → IsUpTo problem.prime (length problem.letters) 60 m × IsMonicOf problem.prime d.terms m.terms
 handed_over problem d m prime ready given e h =
-    let u : IsUpTo problem.prime (length problem.letters) 60 d = subst (λ o. IfSome o (IsUpTo problem.prime (length problem.letters) 60)) given ready.denominator in
+    let u : IsUpTo problem.prime (length problem.letters) 60 d =
+        fit_up_to problem.prime (length problem.letters) d (subst (λ o. IfSome o (IsFit problem.prime (length problem.letters))) given ready.denominator) in
     let k : IsMonicOf problem.prime d.terms m.terms = subst (λ (q : ℕ). IsMonicOf q d.terms m.terms) u.over.prime h in
     let low = monic_low problem.prime (length problem.letters) 60 d.terms m.terms (let t = prime.0 in omega arith) (record { poly = u.over.poly; low = u.low }) k in
     (record { over = record { prime = e ∙ u.over.prime; poly = low.poly }; low = low.low }, k)

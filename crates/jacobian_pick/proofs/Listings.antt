@@ -9,11 +9,12 @@ use Rattle.polys.specs.declared.term.Term.{Term}
 use Rattle.polys.specs.Curve.{IsOver}
 use Rattle.polys.specs.Poly.{Polynomial}
 use Rattle.module_basis.specs.Gens.{term_lists}
-use Rattle.singular_text.specs.declared.problem.Problem.{Problem}
+use Rattle.problem.specs.declared.problem.Problem.{Problem}
 use Rattle.jacobian_pick.specs.Candidates.{AreKept, AreFirst, AreSecond, AreThird, AreCandidates, jacobian, over_pairs, over_others, number_sums, variable_sums}
-use Rattle.jacobian_pick.specs.Lists.{polynomials, IsReady, IsUpTo, problem_data}
+use Rattle.jacobian_pick.specs.Lists.{polynomials, IsUpTo}
+use Rattle.problem.specs.Problem.{IsReady, problem_data}
 use Rattle.jacobian_pick.proofs.Lows.{IsLow, jacobian_low, number_sums_low, variable_sums_low}
-use Rattle.jacobian_pick.proofs.Memberships.{listed, over_raw, lows}
+use Rattle.jacobian_pick.proofs.Memberships.{listed, over_raw, lows, fits_up_to}
 
 -- the polynomials with these terms, which are low
 pub record IsRaw (problem : Problem) (D : ℕ) (xs : List (List Term)) (raw : List Polynomial) : Type 0 where
@@ -42,7 +43,7 @@ module _ (problem : Problem) (prime : IsPrime problem.prime) where
       → IsRaw problem 118 (jacobian problem.prime (length problem.letters) (term_lists problem.generators)) raw
   first_raw v gens raw ready e g r = record {
     is = r ∙ (λ i. polynomials problem.prime (jacobian problem.prime (e i) (term_lists (g i))));
-    low = jacobian_low problem.prime (length problem.letters) two (term_lists problem.generators) (lows problem.prime (length problem.letters) 60 problem.generators ready.generators);
+    low = jacobian_low problem.prime (length problem.letters) two (term_lists problem.generators) (lows problem.prime (length problem.letters) 60 problem.generators (fits_up_to problem.prime (length problem.letters) problem.generators ready.generators));
   }
 
   six_lists : (first six : List Polynomial) → six ≡ take 6 first → term_lists six ≡ take 6 (term_lists first)

@@ -3,7 +3,7 @@ use Rattle.std.proofs.Common.{◌≡◌, ◌↔◌, inl, inr, ℕ, ◌<◌, ◌+
 use Rattle.std.specs.Option.{is_some}
 use Rattle.std.specs.List.{All}
 use Rattle.std.proofs.lemmas.List.{take_more, map-append}
-use Rattle.std.proofs.lemmas.List.Elements.{All-nil, All-cons, All-head, All-tail}
+use Rattle.std.proofs.lemmas.List.Elements.{All-nil, All-cons, All-head, All-tail, All-weaker}
 use Rattle.prime_field.specs.Primes.{IsPrime}
 use Rattle.polys.specs.declared.term.Term.{Term}
 use Rattle.polys.specs.Curve.{IsOver}
@@ -14,11 +14,20 @@ use Rattle.homogenising.proofs.Found.{has_leads_law}
 use Rattle.homogenising.proofs.Spanning.{decides_law}
 use Rattle.module_basis.specs.Basis.{IsRemainder}
 use Rattle.module_basis.specs.Gens.{term_lists}
-use Rattle.singular_text.specs.declared.problem.Problem.{Problem}
+use Rattle.problem.specs.declared.problem.Problem.{Problem}
+use Rattle.problem.specs.Problem.{IsFit}
 use Rattle.jacobian_pick.specs.Candidates.{AreKept}
 use Rattle.jacobian_pick.specs.Lists.{polynomials, IsBasisOf, IsUpTo}
 use Rattle.jacobian_pick.proofs.Lows.{IsLow, multiple_low}
 use Rattle.jacobian_pick.proofs.Members.{lists_of}
+
+-- ---- polynomials of a problem
+
+pub fit_up_to : (p n : ℕ) (f : Polynomial) → IsFit p n f → IsUpTo p n 60 f
+fit_up_to p n f fit = record { over = record { prime = fit.prime; poly = fit.poly }; low = fit.degree }
+
+pub fits_up_to : (p n : ℕ) (fs : List Polynomial) → All (IsFit p n) fs → All (IsUpTo p n 60) fs
+fits_up_to p n fs a = All-weaker (IsFit p n) (IsUpTo p n 60) (λ f h. fit_up_to p n f h) fs a
 
 -- ---- a remainder decides
 

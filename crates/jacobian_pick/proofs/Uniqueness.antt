@@ -6,7 +6,7 @@ use Rattle.std.proofs.lemmas.List.Elements.{All-head, All-tail}
 use Rattle.polys.specs.declared.term.Term.{Term}
 use Rattle.polys.specs.Terms.{IsMonicOf}
 use Rattle.lift_colon.specs.Lifted.{LiftedData}
-use Rattle.singular_text.specs.Problem.{ProblemData}
+use Rattle.problem.specs.Problem.{ProblemData}
 use Rattle.jacobian_pick.specs.Candidates.{AreKept, AreSecond, AreThird, AreCandidates}
 use Rattle.jacobian_pick.specs.Choice.{HasDeepIdeal, HasUnitIdeal, HasProperIdeal, HasDeepModule, IsZeroDivisor, IsAllowed, IsInfinite, IsWide, IsGood, IsHandedIn, IsChosen, IsChosenBy, HasNoDenominator, IsReason, IsCause}
 use Rattle.jacobian_pick.specs.Uniqueness.{CandidatesAreUnique, ChoicesAreUnique}

@@ -6,7 +6,7 @@ use Rattle.monomials.specs.Mono.{variable}
 use Rattle.polys.specs.declared.term.Term.{Term}
 use Rattle.polys.specs.Ideal.{InIdeal}
 use Rattle.polys.specs.Terms.{IsMonicOf, add, sub, mul, multiple, one, derivative}
-use Rattle.singular_text.specs.Problem.{ProblemData}
+use Rattle.problem.specs.Problem.{ProblemData}
 
 -- ---- pairs of members of a list
 

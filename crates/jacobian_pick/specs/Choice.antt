@@ -13,7 +13,7 @@ use Rattle.homogenising.specs.Homogenised.{all_homogenised}
 use Rattle.denominator_module.specs.Module.{IsDeepDenominator}
 use Rattle.module_basis.specs.Gens.{term_lists}
 use Rattle.lift_colon.specs.Lifted.{LiftedData, IsLifted}
-use Rattle.singular_text.specs.Problem.{ProblemData, curve_of}
+use Rattle.problem.specs.Problem.{ProblemData, curve_of}
 use Rattle.jacobian_pick.specs.Candidates.{AreCandidates}
 use Rattle.jacobian_pick.specs.declared.choosing.PickStop.{PickStop}
 use Rattle.jacobian_pick.specs.declared.choosing.PickStop.TheVariants.{Deep, Unit, DenominatorDeep, ZeroDivisor, Infinite, Wide, NoDenominator, Memory}

@@ -1,5 +1,5 @@
 -- Polynomials and problems of the program.
-use Rattle.std.specs.Prelude.{ℕ, ◌≤◌, List, length, map, All, IfSome, option_map}
+use Rattle.std.specs.Prelude.{ℕ, ◌≤◌, List, length, map, All}
 use Rattle.polys.specs.declared.term.Term.{Term}
 use Rattle.polys.specs.Curve.{IsOver}
 use Rattle.polys.specs.Ideal.{InIdeal}
@@ -7,8 +7,7 @@ use Rattle.polys.specs.Poly.{Polynomial}
 use Rattle.polys.specs.Reduced.{IsReducedBasis}
 use Rattle.polys.specs.Terms.{degree_of}
 use Rattle.module_basis.specs.Gens.{term_lists}
-use Rattle.singular_text.specs.declared.problem.Problem.{Problem}
-use Rattle.singular_text.specs.Problem.{ProblemData}
+use Rattle.problem.specs.declared.problem.Problem.{Problem}
 
 -- the polynomials with these lists of terms
 abbrev pub polynomials : ℕ → List (List Term) → List Polynomial
@@ -18,22 +17,6 @@ polynomials p fs = map (λ f. record { prime = p; terms = f }) fs
 pub record IsUpTo (p n D : ℕ) (f : Polynomial) : Type 0 where
   pub over : IsOver p n f
   pub low : degree_of f.terms ≤ D
-
--- the polynomials of the problem are over its prime, in its variables and of degree at most 60
-pub record IsReady (problem : Problem) : Type 0 where
-  pub generators : All (IsUpTo problem.prime (length problem.letters) 60) problem.generators
-  pub denominator : IfSome problem.denominator (IsUpTo problem.prime (length problem.letters) 60)
-
--- the data of a problem of the program
-abbrev pub problem_data : Problem → ProblemData
-problem_data problem =
-    record {
-      prime = problem.prime;
-      letters = problem.letters;
-      generators = term_lists problem.generators;
-      denominator = option_map (λ f. f.terms) problem.denominator;
-      at = map term_lists problem.at;
-    }
 
 -- the reduced basis of the ideal of the problem's generators
 pub record IsBasisOf (problem : Problem) (basis : List Polynomial) : Type 0 where

@@ -2,7 +2,7 @@
 use Rattle.std.specs.Prelude.{◌≡◌, ◌≢◌, ℕ, List}
 use Rattle.polys.specs.declared.term.Term.{Term}
 use Rattle.polys.specs.Terms.{IsMonicOf}
-use Rattle.singular_text.specs.Problem.{ProblemData}
+use Rattle.problem.specs.Problem.{ProblemData}
 use Rattle.jacobian_pick.specs.Candidates.{AreKept, AreCandidates}
 use Rattle.jacobian_pick.specs.Choice.{HasProperIdeal, IsChosen, IsCause}
 use Rattle.jacobian_pick.specs.declared.choosing.PickStop.{PickStop}

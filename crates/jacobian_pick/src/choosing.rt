@@ -1,12 +1,12 @@
 // The choice of a denominator.
 ghost use Rattle.std.specs.Prelude.{◌≡◌, ◌≢◌, ◌↔◌, ◌⊎◌, ◌≤◌, ℕ, All, Err, IfOk, IfErr, IfSome, IsNone, MatchResult, Some, None, length};
 ghost use Rattle.jacobian_pick.specs.Choice.{HasDeepIdeal, HasProperIdeal, IsGood, IsChosen, IsReason, IsCause, IsLiftedOf, IsFound, IsPicked, curve_of_lifted};
-ghost use Rattle.jacobian_pick.specs.Lists.{IsBasisOf, IsReady, IsUpTo, problem_data};
+ghost use Rattle.jacobian_pick.specs.Lists.{IsBasisOf, IsUpTo};
+ghost use Rattle.problem.specs.Problem.{IsReady, problem_data, curve_of};
 ghost use Rattle.jacobian_pick.specs.declared.choosing.PickStop.TheVariants.{Memory};
 ghost use Rattle.lift_colon.specs.Lifted.{IsLifted};
 ghost use Rattle.module_basis.specs.Gens.{term_lists};
 ghost use Rattle.polys.specs.Curve.{Fit, HasDimModulo, IsOver, data_of};
-ghost use Rattle.singular_text.specs.Problem.{curve_of};
 ghost use Rattle.polys.specs.declared.term.Term.{Term};
 
 use crate::jacobian::one;
@@ -16,7 +16,7 @@ use lift_colon::{Dimension, Lifted};
 use lists::{List, NoMemory};
 use module_basis::BasisStop;
 use polys::Poly;
-use singular_text::Problem;
+use problem::Problem;
 use std::alloc::Global;
 use thiserror::Error;
 

@@ -1,7 +1,8 @@
 // The candidates for a denominator.
 ghost use Rattle.std.specs.Prelude.{◌≡◌, ◌≤◌, ℕ, All, IfOk, length, take};
 ghost use Rattle.jacobian_pick.specs.Candidates.{AreFirst, AreSecond, AreThird, AreCandidates};
-ghost use Rattle.jacobian_pick.specs.Lists.{IsBasisOf, IsReady, IsUpTo, problem_data};
+ghost use Rattle.jacobian_pick.specs.Lists.{IsBasisOf, IsUpTo};
+ghost use Rattle.problem.specs.Problem.{IsReady, problem_data};
 ghost use Rattle.module_basis.specs.Gens.{term_lists};
 
 use crate::jacobian::jacobian;
@@ -9,7 +10,7 @@ use crate::membership::{kept, variables_of};
 use crate::sums::{sums_by_numbers, sums_by_variables};
 use lists::{List, NoMemory};
 use polys::Poly;
-use singular_text::Problem;
+use problem::Problem;
 use std::alloc::Global;
 
 // The first six, or all where there are fewer.

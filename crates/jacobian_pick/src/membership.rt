@@ -1,7 +1,8 @@
 // Which polynomials are in the ideal of a problem.
 ghost use Rattle.std.specs.Prelude.{◌≡◌, ◌↔◌, ◌≤◌, ℕ, All, IfOk, IsTrue, length};
 ghost use Rattle.jacobian_pick.specs.Candidates.{AreKept};
-ghost use Rattle.jacobian_pick.specs.Lists.{IsBasisOf, IsReady};
+ghost use Rattle.jacobian_pick.specs.Lists.{IsBasisOf};
+ghost use Rattle.problem.specs.Problem.{IsReady};
 ghost use Rattle.module_basis.specs.Gens.{term_lists};
 ghost use Rattle.polys.specs.Curve.{IsOver};
 ghost use Rattle.polys.specs.Ideal.{InIdeal};
@@ -9,7 +10,7 @@ ghost use Rattle.polys.specs.Ideal.{InIdeal};
 use lists::{List, NoMemory};
 use module_basis::remainder;
 use polys::Poly;
-use singular_text::Problem;
+use problem::Problem;
 use std::alloc::Global;
 
 /// The number of variables, from 1 to 6.

@@ -2,7 +2,8 @@
 ghost use Rattle.std.specs.Prelude.{◌≡◌, ◌≤◌, All, IfOk, IsTrue, length};
 ghost use Rattle.monomials.specs.Mono.{total_degree};
 ghost use Rattle.polys.specs.Terms.{IsAffine};
-ghost use Rattle.jacobian_pick.specs.Lists.{IsReady, IsUpTo};
+ghost use Rattle.problem.specs.Problem.{IsReady};
+ghost use Rattle.jacobian_pick.specs.Lists.{IsUpTo};
 
 use crate::choosing::ideal_basis;
 use crate::{PickStop, candidates, pick};
@@ -10,7 +11,7 @@ use lists::List;
 use monomials::Mono;
 use polys::{Poly, Term};
 use prime_field::Prime;
-use singular_text::{Letters, Problem};
+use problem::{Letters, Problem};
 use std::alloc::Global;
 use std::test::Fail;
 

@@ -1,5 +1,8 @@
 // A `Vec` that contracts see as the list of its items.
 ghost use Rattle.std.specs.Prelude.{◌≡◌, [], ◌∷◌, ◌++◌, length, IfOk, OnOk, OnErr};
+ghost use Rattle.std.specs.Borrow.{Lends, Array, sem};
+ghost use Rattle.lists.specs.contracts.list.List.{the_row};
+ghost use Rattle.lists.specs.Lending.{with_items};
 
 use super::NoMemory;
 use std::alloc::Global;
@@ -52,6 +55,14 @@ impl<T> List<T> {
         ensures { result.now ≡ self.now }
     {
         self.items.as_slice()
+    }
+
+    /// The items, lent to be changed.
+    pub fn as_mut_slice(&mut self) -> &mut [T]
+        ensures* writes_back { sem 𝓛 (Lends (the_row T.row) (Array T.row 0) self.entry result (with_items self.entry.now)) }
+        ensures value { result.now ≡ self.old }
+    {
+        self.items.as_mut_slice()
     }
 
     /// The number of items.

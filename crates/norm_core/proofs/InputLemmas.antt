@@ -7,8 +7,8 @@ use Rattle.polys.specs.declared.term.Term.{Term}
 use Rattle.norm_outside.specs.Bytes.{ReadToEnd, TookMore}
 use Rattle.singular_text.specs.declared.faults.ReadFault.{ReadFault}
 use Rattle.singular_text.specs.declared.faults.ReadFault.TheVariants.{Syntax, Characteristic, Limit, Memory}
-use Rattle.singular_text.specs.declared.problem.Problem.{Problem}
-use Rattle.singular_text.specs.Problem.{data_of}
+use Rattle.problem.specs.declared.problem.Problem.{Problem}
+use Rattle.problem.specs.Problem.{problem_data}
 use Rattle.singular_text.specs.ProblemText.{ProblemText, IsTextOf, HasText, Answers, IsOfText, first_fault}
 use Rattle.norm_core.specs.declared.refusals.Refusal.{Refusal}
 use Rattle.norm_core.specs.declared.refusals.Refusal.TheVariants as refusal
@@ -97,14 +97,14 @@ fault-of_answer cap input fault exact h = fault_of_problem fault h.parts 0 (exac
 -- what the problem has is told of the text
 pub problem-told : (cap : ℕ) (input : List ℕ) (problem : Problem) (status : ℕ) (text : List ℕ) → length input ≤ byte_limit → HasText input
     → ((t : ProblemText) → IsTextOf input t → Answers (Ok problem) t)
-    → Solves (data_of problem) cap status text → Tells cap input status text
+    → Solves (problem_data problem) cap status text → Tells cap input status text
 problem-told cap input problem status text short has exact solves =
     let read = exact has.0 has.1 in
     stated has.0 short has.1 read.0 (subst (λ P. Solves P cap status text) read.1 solves)
 
 pub problem-refused : (cap : ℕ) (input : List ℕ) (problem : Problem) (r : Result (List ℕ) Refusal) → length input ≤ byte_limit → HasText input
     → ((t : ProblemText) → IsTextOf input t → Answers (Ok problem) t)
-    → IfErr r (λ x. (status_of x ≡ 30) ⊎ Solves (data_of problem) cap (status_of x) (line_of x))
+    → IfErr r (λ x. (status_of x ≡ 30) ⊎ Solves (problem_data problem) cap (status_of x) (line_of x))
     → IfErr r (λ x. (status_of x ≡ 30) ⊎ Tells cap input (status_of x) (line_of x))
 problem-refused cap input problem (Ok text) short has exact h = tt
 problem-refused cap input problem (Err x) short has exact (inl memory) = inl memory
@@ -113,7 +113,7 @@ problem-refused cap input problem (Err x) short has exact (inr solves) = inr (pr
 -- an answer with the status of the problem has the status of the text
 pub problem-has_status : (cap : ℕ) (input : List ℕ) (problem : Problem) (result : Result (List ℕ) Refusal) → length input ≤ byte_limit → HasText input
     → ((t : ProblemText) → IsTextOf input t → Answers (Ok problem) t)
-    → ((status : ℕ) (text : List ℕ) → Solves (data_of problem) cap status text → HasStatus result status)
+    → ((status : ℕ) (text : List ℕ) → Solves (problem_data problem) cap status text → HasStatus result status)
     → (status : ℕ) (text : List ℕ) → Tells cap input status text → HasStatus result status
 problem-has_status cap input problem result short has exact solved status text (too_long long e _) = absurd (le_not_lt short long)
 problem-has_status cap input problem result short has exact solved status text (no_text _ none e _) = absurd (none has)
@@ -124,7 +124,7 @@ problem-has_status cap input problem result short has exact solved status text (
 
 pub problem-of_answer : (cap : ℕ) (input : List ℕ) (problem : Problem) (result : Result (List ℕ) Refusal)
     → ((t : ProblemText) → IsTextOf input t → Answers (Ok problem) t)
-    → ((d : List Term) → HasDenominator (data_of problem) cap d → IsServed (data_of problem) d → HasStatus result 0)
+    → ((d : List Term) → HasDenominator (problem_data problem) cap d → IsServed (problem_data problem) d → HasStatus result 0)
     → HasAnswer cap input → HasStatus result 0
 problem-of_answer cap input problem result exact solved h =
     let same = (exact h.parts h.text).1 in

@@ -9,16 +9,14 @@ use Rattle.polys.specs.Curve.{HasDimModulo}
 use Rattle.polys.specs.Ideal.{HasDim}
 use Rattle.polys.specs.Poly.{Polynomial}
 use Rattle.polys.specs.Terms.{IsPoly}
-use Rattle.singular_text.specs.Evaluating.{IsFit}
-use Rattle.singular_text.specs.declared.problem.Problem.{Problem}
-use Rattle.singular_text.specs.Problem.{ProblemData, curve_of, data_of, IsFitProblem, terms_of}
+use Rattle.problem.specs.Problem.{IsFit, ProblemData, curve_of, problem_data, IsFitProblem, terms_of}
+use Rattle.problem.specs.declared.problem.Problem.{Problem}
 use Rattle.norm_text.specs.Plain.{IsPlain, plain_answer}
 use Rattle.norm_text.specs.Answer.{answer_text}
 use Rattle.norm_text.proofs.Plain.{plain_answers}
 use Rattle.module_basis.specs.Gens.{term_lists}
 use Rattle.lift_colon.specs.Lifted.{LiftedData, IsLifted}
 use Rattle.jacobian_pick.specs.Choice.{HasProperIdeal, IsGood, IsChosen, IsChosenBy, IsCause, IsLiftedOf}
-use Rattle.jacobian_pick.specs.Lists.{IsUpTo}
 use Rattle.jacobian_pick.specs.declared.choosing.PickStop.{PickStop}
 use Rattle.jacobian_pick.specs.declared.choosing.PickStop.TheVariants.{Memory}
 use Rattle.jacobian_pick.specs.declared.choosing.PickStop.TheVariants as stop
@@ -26,14 +24,6 @@ use Rattle.norm_core.specs.declared.refusals.Refusal.{Refusal}
 use Rattle.norm_core.specs.declared.refusals.Refusal.TheVariants.{Denominator}
 use Rattle.norm_core.specs.Refusals.{status_of, line_of}
 use Rattle.norm_core.specs.Telling.{HasDenominator, IsUnserved, IsServed, Solves, stopped, not_yet, answered}
-
--- ---- what is read is ready
-
-up_to : (p n : ℕ) (fs : List Polynomial) → All (IsFit p n) fs → All (IsUpTo p n 60) fs
-up_to p n [] a = All-nil (IsUpTo p n 60)
-up_to p n (f ∷ fs) a =
-    let fit : IsFit p n f = All-head (IsFit p n) f fs a in
-    All-cons (IsUpTo p n 60) f fs (record { over = record { prime = fit.prime; poly = fit.poly }; low = fit.degree }) (up_to p n fs (All-tail (IsFit p n) f fs a))
 
 -- ---- dimensions
 
@@ -125,14 +115,14 @@ no_lists : (at : List (List Polynomial)) → map terms_of at ≡ [] → at ≡ [
 no_lists [] e = refl
 no_lists (fs ∷ at) e = absurd (let n = ap length e in omega (arith, n))
 
-pub unserved-by : (problem : Problem) (cap : ℕ) (l : LiftedData) → IsPickedOf (data_of problem) cap l
-    → (problem.at ≢ []) ⊎ (HasDim l.prime l.variables (l.denominator.terms ∷ term_lists l.ideal) 0 → ⊥) → IsUnserved (data_of problem) l.denominator.terms
+pub unserved-by : (problem : Problem) (cap : ℕ) (l : LiftedData) → IsPickedOf (problem_data problem) cap l
+    → (problem.at ≢ []) ⊎ (HasDim l.prime l.variables (l.denominator.terms ∷ term_lists l.ideal) 0 → ⊥) → IsUnserved (problem_data problem) l.denominator.terms
 unserved-by problem cap l picked (inl named) = inl (λ e. named (no_lists problem.at e))
 unserved-by problem cap l picked (inr not) =
-    inr (something-left (data_of problem) cap l.denominator.terms picked.has.chosen (λ h. not ((picked.dimension 0).1 h)))
+    inr (something-left (problem_data problem) cap l.denominator.terms picked.has.chosen (λ h. not ((picked.dimension 0).1 h)))
 
-pub served-by : (problem : Problem) (cap : ℕ) (l : LiftedData) → IsPickedOf (data_of problem) cap l
-    → (problem.at ≡ []) × HasDim l.prime l.variables (l.denominator.terms ∷ term_lists l.ideal) 0 → IsServed (data_of problem) l.denominator.terms
+pub served-by : (problem : Problem) (cap : ℕ) (l : LiftedData) → IsPickedOf (problem_data problem) cap l
+    → (problem.at ≡ []) × HasDim l.prime l.variables (l.denominator.terms ∷ term_lists l.ideal) 0 → IsServed (problem_data problem) l.denominator.terms
 served-by problem cap l picked served = record { unnamed = ap (map terms_of) served.0; nothing_left = (picked.dimension 0).0 served.1 }
 
 -- ---- the answer
@@ -142,25 +132,25 @@ polys-of p n [] a = All-nil (IsPoly p n)
 polys-of p n (f ∷ fs) a = All-cons (IsPoly p n) f.terms (terms_of fs) (All-head (IsFit p n) f fs a).poly (polys-of p n fs (All-tail (IsFit p n) f fs a))
 
 -- a problem that is served has the plain answer
-pub plain-solves : (problem : Problem) (cap : ℕ) (l : LiftedData) (text : List ℕ) → IsFitProblem problem → IsPickedOf (data_of problem) cap l
-    → IsServed (data_of problem) l.denominator.terms → text ≡ answer_text (plain_answer (data_of problem) l.denominator.terms) → Solves (data_of problem) cap 0 text
+pub plain-solves : (problem : Problem) (cap : ℕ) (l : LiftedData) (text : List ℕ) → IsFitProblem problem → IsPickedOf (problem_data problem) cap l
+    → IsServed (problem_data problem) l.denominator.terms → text ≡ answer_text (plain_answer (problem_data problem) l.denominator.terms) → Solves (problem_data problem) cap 0 text
 plain-solves problem cap l text fit picked served is =
     answered l.denominator.terms picked.has served refl
-    (plain_answer (data_of problem) l.denominator.terms, plain_answers (data_of problem) l.denominator.terms is_plain, is)
+    (plain_answer (problem_data problem) l.denominator.terms, plain_answers (problem_data problem) l.denominator.terms is_plain, is)
   where
     n : ℕ
     n = length problem.letters
 
-    is_plain : IsPlain (data_of problem) l.denominator.terms
+    is_plain : IsPlain (problem_data problem) l.denominator.terms
     is_plain = record {
       unnamed = served.unnamed;
       curve = record {
         prime = subst IsPrime picked.lifted.prime picked.known.prime;
-        ideal = polys-of problem.prime n problem.generators fit.generators;
+        ideal = polys-of problem.prime n problem.generators fit.ready.generators;
         denominator =
             subst (λ (m : ℕ). IsPoly problem.prime m l.denominator.terms) picked.lifted.variables
             (subst (λ (q : ℕ). IsPoly q l.variables l.denominator.terms) picked.lifted.prime picked.known.denominator.poly);
-        regular = (chosen-good (data_of problem) cap l.denominator.terms picked.has.chosen).allowed.regular;
+        regular = (chosen-good (problem_data problem) cap l.denominator.terms picked.has.chosen).allowed.regular;
       };
       dimension = served.nothing_left;
     }

@@ -3,7 +3,7 @@ use Rattle.std.specs.Prelude.{ℕ, ◌≡◌, ◌≢◌, ◌<◌, ◌≤◌, ◌
 use Rattle.std.specs.Io.KnownBytes.{Consumes, IsAtEnd, Appends}
 use Rattle.polys.specs.declared.term.Term.{Term}
 use Rattle.polys.specs.Curve.{HasDimModulo}
-use Rattle.singular_text.specs.Problem.{ProblemData, curve_of}
+use Rattle.problem.specs.Problem.{ProblemData, curve_of}
 use Rattle.singular_text.specs.ProblemText.{ProblemText, IsTextOf, HasText, first_fault, problem_of}
 use Rattle.singular_text.specs.declared.faults.ReadFault.{ReadFault}
 use Rattle.singular_text.specs.declared.faults.ReadFault.TheVariants.{Syntax}

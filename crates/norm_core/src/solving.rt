@@ -3,7 +3,7 @@ ghost use Rattle.std.specs.Prelude.{◌≡◌, ◌≢◌, ◌↔◌, ◌≤◌, 
 ghost use Rattle.polys.specs.Ideal.{HasDim};
 ghost use Rattle.polys.specs.Terms.{one};
 ghost use Rattle.module_basis.specs.Gens.{term_lists};
-ghost use Rattle.singular_text.specs.Problem.{IsFitProblem, data_of};
+ghost use Rattle.problem.specs.Problem.{IsFitProblem, problem_data};
 ghost use Rattle.norm_text.specs.Answer.{answer_text};
 ghost use Rattle.norm_text.specs.Plain.{plain_answer};
 ghost use Rattle.norm_text.specs.Shown as shown;
@@ -57,7 +57,7 @@ fn is_served(alloc: Global, problem: &Problem, lifted: &Lifted) -> Result<bool, 
 // The answer to a problem whose denominator leaves nothing.
 fn plain(alloc: Global, problem: Problem, denominator: Poly) -> Result<Answer, NoMemory>
     requires { denominator.prime ≡ problem.prime }
-    ensures data { IfOk result (λ a. shown.data_of a ≡ plain_answer (data_of problem) denominator.terms) }
+    ensures data { IfOk result (λ a. shown.data_of a ≡ plain_answer (problem_data problem) denominator.terms) }
     ensures denominator { IfOk result (λ a. a.denominator.prime ≡ a.prime) }
     ensures numerators { IfOk result (λ a. All (λ f. f.prime ≡ a.prime) a.numerators) }
     ensures points { IfOk result (λ a. a.points ≡ []) }
@@ -86,7 +86,7 @@ fn plain(alloc: Global, problem: Problem, denominator: Poly) -> Result<Answer, N
 // The text of that answer.
 fn plain_text(alloc: Global, problem: Problem, denominator: &Poly) -> Result<List<u8>, NoMemory>
     requires { denominator.now.prime ≡ problem.prime }
-    ensures { IfOk result (λ text. text ≡ answer_text (plain_answer (data_of problem) denominator.now.terms)) }
+    ensures { IfOk result (λ text. text ≡ answer_text (plain_answer (problem_data problem) denominator.now.terms)) }
 {
     let answer = plain(alloc, problem, denominator.clone_poly()?)?;
     print_answer(alloc, &answer)
@@ -97,10 +97,10 @@ pub fn solve(alloc: Global, problem: Problem, cap: u32) -> Result<List<u8>, Refu
     requires fit { IsFitProblem problem }
     requires some_cap { 1 ≤ cap }
     requires cap { cap ≤ 1000 }
-    ensures answered { IfOk result (λ text. Solves (data_of problem) cap 0 text) }
-    ensures refused { IfErr result (λ refusal. (status_of refusal ≡ 30) ⊎ Solves (data_of problem) cap (status_of refusal) (line_of refusal)) }
-    ensures exact { (status : ℕ) (text : List ℕ) → Solves (data_of problem) cap status text → HasStatus result status }
-    ensures complete { (d : List Term) → HasDenominator (data_of problem) cap d → IsServed (data_of problem) d → HasStatus result 0 }
+    ensures answered { IfOk result (λ text. Solves (problem_data problem) cap 0 text) }
+    ensures refused { IfErr result (λ refusal. (status_of refusal ≡ 30) ⊎ Solves (problem_data problem) cap (status_of refusal) (line_of refusal)) }
+    ensures exact { (status : ℕ) (text : List ℕ) → Solves (problem_data problem) cap status text → HasStatus result status }
+    ensures complete { (d : List Term) → HasDenominator (problem_data problem) cap d → IsServed (problem_data problem) d → HasStatus result 0 }
 {
     let lifted = pick(alloc, &problem, cap)?;
     let _basis = lifted.ideal_basis();

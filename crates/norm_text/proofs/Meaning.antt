@@ -17,7 +17,7 @@ use Rattle.curve_laws.proofs.PointSetLaws.{grows_law}
 use Rattle.curve_points.specs.Points.{AreThePoints}
 use Rattle.curve_points.proofs.Points.{closure_points_law, integral_points_law}
 use Rattle.singular_text.specs.PolyText.{list_text}
-use Rattle.singular_text.specs.Problem.{ProblemData, curve_of}
+use Rattle.problem.specs.Problem.{ProblemData, curve_of}
 use Rattle.norm_text.specs.Named.{IsNamed, IsNamedList}
 use Rattle.norm_text.specs.Answer.{AnswerData}
 use Rattle.norm_text.specs.Answers.{IsAnswer}

@@ -7,7 +7,7 @@ use Rattle.polys.specs.Ideal.{InIdeal, IsSpanned, HasDim, Regular, number_combin
 use Rattle.polys.proofs.Sums.{mul_comm}
 use Rattle.polys.proofs.Units.{mul_one, sub_self, add_none}
 use Rattle.polys.proofs.Affine.{positive, poly_one, sevens_of}
-use Rattle.polys.proofs.Ideals.{in_none, in_mul, in_head, in_larger}
+use Rattle.ideal_laws.proofs.Ideals.{in_none, in_mul, in_head, in_larger}
 use Rattle.curve_model.specs.Fraction.{over}
 use Rattle.curve_model.specs.Laws.{IsFinite}
 use Rattle.curve_model.specs.Point.{IsPoint}
@@ -15,7 +15,7 @@ use Rattle.curve_model.specs.Closure.{Closure}
 use Rattle.curve_laws.proofs.SplitLaws.{none_law}
 use Rattle.curve_model.proofs.UnitDenominator.{units_close_nothing}
 use Rattle.polys.specs.Curve.{CurveData}
-use Rattle.singular_text.specs.Problem.{curve_of}
+use Rattle.problem.specs.Problem.{curve_of}
 use Rattle.norm_text.specs.Answers.{named_number}
 use Rattle.norm_text.specs.Plain.{PlainAnswers}
 

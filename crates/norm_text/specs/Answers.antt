@@ -5,7 +5,7 @@ use Rattle.polys.specs.Curve.{HasDimModulo}
 use Rattle.curve_model.specs.Point.{HasDegree}
 use Rattle.curve_model.specs.Delta.{HasDelta}
 use Rattle.curve_model.specs.Closure.{Closure}
-use Rattle.singular_text.specs.Problem.{ProblemData, curve_of}
+use Rattle.problem.specs.Problem.{ProblemData, curve_of}
 use Rattle.norm_text.specs.Named.{IsNamedList}
 use Rattle.norm_text.specs.Answer.{PointData, AnswerData, answer_text}
 

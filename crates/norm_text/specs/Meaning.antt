@@ -6,7 +6,7 @@ use Rattle.curve_model.specs.Integral.{Integral}
 use Rattle.curve_model.specs.Local.{LocalAt}
 use Rattle.curve_model.specs.Closure.{InModule}
 use Rattle.curve_model.specs.Laws.{IsRegular}
-use Rattle.singular_text.specs.Problem.{ProblemData, curve_of}
+use Rattle.problem.specs.Problem.{ProblemData, curve_of}
 use Rattle.norm_text.specs.Named.{IsNamedList}
 use Rattle.norm_text.specs.Answer.{AnswerData}
 use Rattle.norm_text.specs.Answers.{IsAnswer}

@@ -4,7 +4,7 @@ use Rattle.polys.specs.declared.term.Term.{Term}
 use Rattle.polys.specs.Terms.{one}
 use Rattle.polys.specs.Curve.{HasDimModulo}
 use Rattle.curve_model.specs.Laws.{IsRegular}
-use Rattle.singular_text.specs.Problem.{ProblemData, curve_of}
+use Rattle.problem.specs.Problem.{ProblemData, curve_of}
 use Rattle.norm_text.specs.Answer.{AnswerData}
 use Rattle.norm_text.specs.Answers.{IsAnswer}
 

@@ -3,7 +3,7 @@ use curve_model::Point;
 use lists::List;
 use polys::Poly;
 use prime_field::Prime;
-use singular_text::Letters;
+use problem::Letters;
 
 /// A point with its local dimension.
 #[derive(Debug, Drop)]

@@ -10,7 +10,8 @@ ghost use Rattle.norm_text.specs.Shown.{point_of, data_of};
 use crate::{Answer, PointLine};
 use lists::{List, NoMemory};
 use polys::Poly;
-use singular_text::{Letters, print_bytes, print_number, print_poly};
+use problem::Letters;
+use singular_text::{print_bytes, print_number, print_poly};
 use std::alloc::Global;
 
 // A line with a number.

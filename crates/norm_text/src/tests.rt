@@ -7,7 +7,7 @@ use lists::List;
 use monomials::Mono;
 use polys::{Poly, Term};
 use prime_field::Prime;
-use singular_text::Letters;
+use problem::Letters;
 use std::alloc::Global;
 use std::test::Fail;
 

@@ -9,7 +9,7 @@ use Rattle.fraction_laws.proofs.WrittenOut.{setting, Gens}
 use Rattle.fraction_laws.proofs.Forms.{Mem}
 use Rattle.point_laws.proofs.PointForms.{Id, Max, Covers, Point, EachPoint, Differs, Distinct, Holds}
 use Rattle.fraction_laws.proofs.Scalars.{Scalars, Dim}
-use Rattle.fraction_laws.proofs.Settings.{gr, Apart, ApartFrom, AllApart}
+use Rattle.fraction_laws.proofs.Settings.{gr, ApartFrom, AllApart}
 
 module _ (Q : CommRing) (d : Q.carrier) (cancel : (x : Q.carrier) → Q.◌≈◌ (Q.◌⊗◌ d x) Q.𝟘 → Q.◌≈◌ x Q.𝟘) where
   open Q use {carrier, ◌≈◌, ◌⊕◌, ◌⊗◌, neg, 𝟘, 𝟙, rfl, symm, trans, add_cong, mul_cong, neg_cong, add_assoc, add_comm, add_zero, add_neg, mul_assoc, mul_comm, mul_one, distrib}
@@ -89,14 +89,18 @@ module _ (Q : CommRing) (d : Q.carrier) (cancel : (x : Q.carrier) → Q.◌≈�
     abbrev Gn : List carrier → carrier × ℕ → Type 0
     Gn l = Gens Q d cancel (Mem Q.ops d l)
 
+    -- a member of the one and a member of the other with the sum 1
+    pub coprime : (t u : List carrier) → Point Q.ops d t → Point Q.ops d u → ¬ ((x : carrier) → S t x ↔ S u x) → (x : carrier) × (y : carrier) × I t x × I u y × x ⊕ y ≈ 𝟙
+    coprime t u p q f = go (apart_or_in Q d t (max_of_point t p) u)
+      where
+        go : ((x : carrier) × (y : carrier) × I t x × I u y × x ⊕ y ≈ 𝟙) ⊎ ((x : carrier) → I u x → I t x) → (x : carrier) × (y : carrier) × I t x × I u y × x ⊕ y ≈ 𝟙
+        go (inl w) = w
+        go (inr g) = absurd (f (λ x. ((λ a. from_id u q.0 x (same_of_in t u (max_of_point t p) (max_of_point u q) g x (to_id t x a))), λ a. from_id t p.0 x (g x (to_id u x a)))))
+
     pub apart_from : (t : List carrier) (s : List (List carrier)) → Point Q.ops d t → EachPoint Q.ops d s → Differs Q.ops d t s → ApartFrom (gr (setting Q d cancel)) (List carrier) Gn t s
     unfolding pow
     apart_from t [] p q f = tt
-    apart_from t (u ∷ s) p q f = (go (apart_or_in Q d t (max_of_point t p) u), apart_from t s p q.1 f.1)
-      where
-        go : ((x : carrier) × (y : carrier) × I t x × I u y × x ⊕ y ≈ 𝟙) ⊎ ((x : carrier) → I u x → I t x) → Apart (gr (setting Q d cancel)) (List carrier) Gn t u
-        go (inl w) = apart_up Q d cancel t u p.0 q.0.0 w
-        go (inr g) = absurd (f.0 (λ x. ((λ a. from_id u q.0.0 x (same_of_in t u (max_of_point t p) (max_of_point u q.0) g x (to_id t x a))), λ a. from_id t p.0 x (g x (to_id u x a)))))
+    apart_from t (u ∷ s) p q f = (apart_up Q d cancel t u p.0 q.0.0 (coprime t u p q.0 f.0), apart_from t s p q.1 f.1)
 
     pub all_apart : (s : List (List carrier)) → EachPoint Q.ops d s → Distinct Q.ops d s → AllApart (gr (setting Q d cancel)) (List carrier) Gn s
     unfolding pow

@@ -7,6 +7,7 @@ mod Splitting
 mod MaximalIdeals
 mod AllPoints
 mod DistinctPoints
+mod FewPoints
 mod SeveralPoints
 mod PointTranslations
 mod DescentWritten

@@ -26,6 +26,7 @@ use Rattle.fraction_laws.proofs.Integrals.{integral_A, integral_resp}
 use Rattle.point_laws.proofs.Splitting.{all_resp, local_at_add, local_at_mul}
 use Rattle.point_laws.proofs.SeveralPoints.{local_at_up, local_at_down}
 use Rattle.point_laws.proofs.Deltas.{delta_unique}
+use Rattle.point_laws.proofs.FewPoints.{few}
 use Rattle.fraction_laws.proofs.FractionLaws.{residues}
 use Rattle.point_laws.proofs.DescentWritten.{descent_written}
 use Rattle.point_laws.proofs.PointLaws.{all_points_suffice, local_is_sum, sum_is_direct}
@@ -154,4 +155,5 @@ module _ (Q : CommRing) (d : Q.carrier) (regular : Regular Q.ops d) (p : ℕ) (p
     direct = direct;
     none = none;
     rings = rings;
+    few = λ k E. few Q d regular p prime scalar m k E;
   }

@@ -1,11 +1,11 @@
 -- The laws of integral fractions at points: rings that cannot be enlarged, delta, and the splitting by points.
-use Rattle.std.specs.Prelude.{◌≡◌, ◌≢◌, ◌↔◌, ◌%◌, ℕ, suc, ◌≤◌, List, [], All}
+use Rattle.std.specs.Prelude.{◌≡◌, ◌≢◌, ◌↔◌, ◌%◌, ℕ, suc, ◌≤◌, List, [], ◌∷◌, length, All}
 use Rattle.std.specs.List.{Contains}
 use Rattle.prime_field.specs.Primes.{IsCharacteristic}
 use Rattle.comm_ring.specs.Ring.{Ops}
 use Rattle.comm_ring.specs.Residues.{residue_ops}
 use Rattle.comm_ring.specs.Sums.{sum}
-use Rattle.comm_ring.specs.Modules.{DimensionOf, Dimension}
+use Rattle.comm_ring.specs.Modules.{DimensionOf, Dimension, modulo, module_through}
 use Rattle.comm_ring.specs.Ideals.{InIdeal}
 use Rattle.fraction_laws.specs.Fractions.{Frac, Equal, fraction_ops, InA, IntegralAt, LocalTo, InModule, IsFractionRing, KeepsRadical, IsFullAt, fraction_space, LocalIndependent, Delta}
 use Rattle.fraction_laws.specs.Curves.{curve_ops, RegularOver, space_over}
@@ -77,6 +77,10 @@ module _ (Q : Ops) (d : Q.carrier) where
     LocalRingIsBounded = (P : List carrier) → Point Q d P → (k : ℕ) (L : List carrier) → IsLocalRing P k L
         → (r : ℕ) → DimensionOf (fraction_space Q d p scalar) (ModuleOf k L) r → (l : ℕ) → l ≤ r → LocalIndependent Q d p scalar P l
 
+    -- distinct points are at most the dimension modulo d
+    abbrev pub PointsAreFew : Type 0
+    PointsAreFew = (n : ℕ) → Dimension (modulo (module_through Q scalar) (InIdeal Q (d ∷ []))) n → (s : List (List carrier)) → DistinctPoints Q d s → length s ≤ n
+
     -- all of these
     pub record PointLaws : Type 0 where
       pub descent : Descent
@@ -90,6 +94,7 @@ module _ (Q : Ops) (d : Q.carrier) where
       pub direct : PartsAreDirect
       pub none : NoPoints
       pub rings : LocalAtIsRing
+      pub few : PointsAreFew
 
 -- the laws hold for the numbers modulo each prime of the table, over each number that the prime does not divide
 abbrev pub PointLawsModuloPrimes : Type 0

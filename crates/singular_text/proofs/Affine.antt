@@ -7,8 +7,10 @@ use Rattle.std.specs.Char.{is_ascii_digit}
 use Rattle.monomials.specs.Mono.{Monomial, unit, variable}
 use Rattle.polys.specs.Terms.{IsPoly, IsAffine, OnlyFirst}
 use Rattle.singular_text.specs.Words.{are_run_bytes}
-use Rattle.singular_text.specs.Values.{place, raised, front_number, run_after, term_of}
-use Rattle.singular_text.proofs.Monomials.{place_within, letter_byte, bytes_next, run_digit, run_letter, run_end}
+use Rattle.problem.specs.Letters.{place}
+use Rattle.singular_text.specs.Values.{raised, front_number, run_after, term_of}
+use Rattle.problem.proofs.Places.{place_within}
+use Rattle.singular_text.proofs.Monomials.{letter_byte, bytes_next, run_digit, run_letter, run_end}
 
 only_zeros : (n k : ℕ) → OnlyFirst n (replicate k 0)
 only_zeros n zero = tt

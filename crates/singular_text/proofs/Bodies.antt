@@ -1,7 +1,6 @@
 -- The statements behind `ideal`, its name and `=`: what is spelled is counted, and what is taken is spelled.
-use Rattle.std.proofs.Common.{◌≡◌, ℕ, ◌+◌, ◌≤◌, max, List, [], ◌∷◌, ◌++◌, Bool, true, false, cond, ◌==◌, ◌&&◌, length, refl, sym, ap, ◌∙◌, arith, append_assoc, length-append, Option, Some, None, suc, zero}
+use Rattle.std.proofs.Common.{◌≡◌, ℕ, ◌+◌, ◌≤◌, max, List, [], ◌∷◌, ◌++◌, Bool, true, false, cond, ◌==◌, ◌&&◌, length, refl, sym, ap, ◌∙◌, arith, append_assoc, length-append, Option, Some, None, suc, zero, inl, inr}
 use Rattle.std.specs.Prelude.{codes, flat_map, option_and_then, ◌⊎◌}
-use Rattle.std.proofs.Common.{inl, inr}
 use Rattle.std.specs.Char.{is_ascii_alphabetic}
 use Rattle.std.specs.List.{AllByRecursion}
 use Rattle.std.proofs.lemmas.Bool.Decides.{nat_tests}
@@ -9,7 +8,8 @@ use Rattle.singular_text.specs.declared.words.Class.TheVariants as class
 use Rattle.singular_text.specs.declared.scanning.Place.TheVariants.{Start, Between, PolyName, PolyEquals}
 use Rattle.singular_text.specs.declared.scanning.Part.TheVariants.{Ideal, Poly, At}
 use Rattle.singular_text.specs.declared.scanning.Scan.{Scan}
-use Rattle.singular_text.specs.Words.{is_among, is_name, same_token, digits_in}
+use Rattle.problem.specs.Letters.{is_among}
+use Rattle.singular_text.specs.Words.{is_name, same_token, digits_in}
 use Rattle.singular_text.specs.Expressions.{Expression, IsFormed, spelling, nesting, most_digits}
 use Rattle.singular_text.specs.ProblemText.{DenominatorText, list_spelling, denominator_spelling, at_spelling, AreExpressions, IsDenominator, greatest}
 use Rattle.singular_text.specs.Forms.{body_spelling, Counts}

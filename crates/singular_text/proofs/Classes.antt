@@ -1,6 +1,7 @@
 -- What follows from a token's class.
 use Rattle.std.proofs.Common.{◌≡◌, ℕ, List, [], ◌∷◌, Bool, true, false, cond, ◌==◌, refl, sym}
-use Rattle.singular_text.specs.Words.{is_among, is_number, is_run, class_of_byte, class_of_mark, class_of, IsLetterOf}
+use Rattle.problem.specs.Letters.{is_among}
+use Rattle.singular_text.specs.Words.{is_number, is_run, class_of_byte, class_of_mark, class_of, IsLetterOf}
 use Rattle.singular_text.specs.declared.words.Class.{Class}
 use Rattle.singular_text.specs.declared.words.Class.TheVariants.{Number, Variable, Run, Other}
 

@@ -7,7 +7,8 @@ use Rattle.singular_text.specs.declared.words.Class.{Class}
 use Rattle.singular_text.specs.declared.words.Class.TheVariants as class
 use Rattle.singular_text.specs.declared.faults.ReadFault.{ReadFault}
 use Rattle.singular_text.specs.declared.evaluation.Frame.{Frame}
-use Rattle.singular_text.specs.Words.{is_among, is_number, is_run, class_of}
+use Rattle.problem.specs.Letters.{is_among}
+use Rattle.singular_text.specs.Words.{is_number, is_run, class_of}
 use Rattle.singular_text.specs.Expressions.{Expression, Letter, Number, Parentheses, Run, Power, Product, Signed, Sum, rank, IsFormed, sign, spelling}
 use Rattle.singular_text.specs.Evaluating.{and_then, checked, term_with, sum_with, close, new_frame, with_factor, constant, variable_value, run_value, power_value, inner_step, step, closed, evaluate}
 use Rattle.singular_text.proofs.Marks.{open_class, close_class, caret_class, star_class, sign_has_class, number_class, run_class, letter_class, semicolon_class, comma_class}

@@ -26,3 +26,4 @@ pub mod Wholes
 pub mod ReadBack
 pub mod Statements
 pub mod Outcomes
+pub mod Stating

@@ -3,7 +3,8 @@ use Rattle.std.proofs.Common.{◌≡◌, ℕ, List, [], ◌∷◌, Bool, true, f
 use Rattle.std.specs.Prelude.{codes, not, nat_lt}
 use Rattle.std.proofs.lemmas.Bool.Decides.{nat_tests}
 use Rattle.std.specs.Char.{is_ascii_digit, is_ascii_alphabetic}
-use Rattle.singular_text.specs.Words.{is_among, is_number, is_run, are_run_bytes, class_of_byte, class_of_mark, class_of}
+use Rattle.problem.specs.Letters.{is_among}
+use Rattle.singular_text.specs.Words.{is_number, is_run, are_run_bytes, class_of_byte, class_of_mark, class_of}
 use Rattle.singular_text.specs.Expressions.{sign}
 use Rattle.singular_text.specs.declared.words.Class.{Class}
 use Rattle.singular_text.specs.declared.words.Class.TheVariants.{Open, Close, Caret, Star, Plus, Minus, Comma, Semicolon, Number, Variable, Run}

@@ -5,8 +5,10 @@ use Rattle.std.proofs.lemmas.List.{length-set, drop_all}
 use Rattle.std.specs.Char.{is_ascii_digit}
 use Rattle.std.specs.Prelude.{Option, None, Some, MatchOption}
 use Rattle.monomials.specs.Mono.{Monomial, IsMono, pointwise, total_degree, times, unit}
-use Rattle.singular_text.specs.Words.{is_among, are_run_bytes}
-use Rattle.singular_text.specs.Values.{raised, place, front_number, run_after, run_monomial}
+use Rattle.problem.specs.Letters.{is_among, place}
+use Rattle.problem.proofs.Places.{place_within}
+use Rattle.singular_text.specs.Words.{are_run_bytes}
+use Rattle.singular_text.specs.Values.{raised, front_number, run_after, run_monomial}
 
 abbrev monomial : List ℕ → ℕ → Monomial
 monomial a c = record { exponents = a; component = c }
@@ -56,25 +58,6 @@ raised_mono m v e known within room = record {
 }
 
 -- ---- a run
-
-pub place_within : (letters : List ℕ) (b : ℕ) → is_among letters b ≡ true → place letters b < length letters
-place_within [] b h = absurd (cc)
-place_within (x ∷ letters) b h = by_case (x == b) refl (place_within letters b)
-  where
-    by_case : (t : Bool) → (x == b) ≡ t → (is_among letters b ≡ true → place letters b < length letters) → cond (x == b) 0 (suc (place letters b)) < suc (length letters)
-    by_case true is more = rw is (omega arith)
-    by_case false is more =
-        let rest : is_among letters b ≡ true = ap (λ (t : Bool). t || is_among letters b) (sym is) ∙ h in
-        let w : place letters b < length letters = more rest in
-        rw is (omega arith)
-
-pub place_most : (letters : List ℕ) (b : ℕ) → place letters b ≤ length letters
-place_most [] b = omega arith
-place_most (x ∷ letters) b = by_case (x == b) (place_most letters b)
-  where
-    by_case : (t : Bool) → place letters b ≤ length letters → cond t 0 (suc (place letters b)) ≤ suc (length letters)
-    by_case true h = omega arith
-    by_case false h = omega arith
 
 pub run_digit : (letters : List ℕ) (m : Monomial) (b : ℕ) (word : List ℕ) → is_ascii_digit b ≡ true → run_after letters m (b ∷ word) ≡ run_after letters m word
 unfolding run_after

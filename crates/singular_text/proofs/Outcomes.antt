@@ -13,18 +13,19 @@ use Rattle.polys.specs.Poly.{Polynomial}
 use Rattle.singular_text.specs.declared.faults.ReadFault.{ReadFault}
 use Rattle.singular_text.specs.declared.faults.ReadFault.TheVariants.{Syntax, Characteristic, Limit, Memory}
 use Rattle.singular_text.specs.declared.faults.Which.TheVariants.{Variables, Generators, Points, Nesting, Digits, Size}
-use Rattle.singular_text.specs.declared.problem.Problem.{Problem}
+use Rattle.problem.specs.declared.problem.Problem.{Problem}
 use Rattle.singular_text.specs.declared.scanning.Scan.{Scan}
-use Rattle.singular_text.specs.Words.{is_among, is_name}
+use Rattle.problem.specs.Letters.{is_among}
+use Rattle.singular_text.specs.Words.{is_name}
 use Rattle.singular_text.specs.Expressions.{Expression, nesting, most_digits}
 use Rattle.singular_text.specs.Values.{number, value}
 use Rattle.singular_text.specs.Reading.{begun_at}
-use Rattle.singular_text.specs.Problem.{ProblemData, data_of, terms_of, IsFitProblem}
+use Rattle.problem.specs.Problem.{ProblemData, problem_data, terms_of, IsFitProblem, IsFit}
 use Rattle.singular_text.specs.ProblemText.{ProblemText, DenominatorText, IsGrammatical, IsTextOf, HasText, AreExpressions, IsDenominator, Answers, list_spelling, denominator_spelling, at_spelling, denominators, denominator_value, expressions, greatest, has_small_values, first_fault, problem_of}
-use Rattle.singular_text.specs.Evaluating.{IsFit, Agrees, and_then, evaluate, new_frame}
+use Rattle.singular_text.specs.Evaluating.{Agrees, and_then, evaluate, new_frame}
 use Rattle.singular_text.specs.Forms.{HasFitPolys, body_spelling, Counts, IsFormOf, count_fault, or_fault, denominator_by, denominator_at, points_at, problem_with, problem_at, problem_by}
 use Rattle.singular_text.proofs.SmallValues.{where_small, poly, list_values}
-use Rattle.singular_text.proofs.Wholes.{letters_alphabetic}
+use Rattle.problem.proofs.Places.{letters_alphabetic}
 
 -- ---- values
 
@@ -133,7 +134,7 @@ stated t =
     let p = number t.characteristic in
     problem_with p t.letters (polys_of p t.letters t.generators) (denominator_of p t.letters t.denominator) (map (polys_of p t.letters) t.at)
 
-data_is : (t : ProblemText) → data_of (stated t) ≡ problem_of t
+data_is : (t : ProblemText) → problem_data (stated t) ≡ problem_of t
 data_is t =
     let p = number t.characteristic in
     λ i. record {
@@ -248,7 +249,7 @@ fine None x y h = (refl, ok_same x y h)
 fine (Some k) x y h = absurd (cc)
 
 answered : (t : ProblemText) (result : Result Problem ReadFault) → Agrees (λ r. r) result (or_fault (first_fault t) (Ok (stated t))) → Answers result t
-answered t (Ok problem) h = let f = fine (first_fault t) (stated t) problem h in (f.0, ap data_of (sym f.1) ∙ data_is t)
+answered t (Ok problem) h = let f = fine (first_fault t) (stated t) problem h in (f.0, ap problem_data (sym f.1) ∙ data_is t)
 answered t (Err Memory) h = tt
 answered t (Err Syntax) h = faulty (first_fault t) (stated t) Syntax h
 answered t (Err Characteristic) h = faulty (first_fault t) (stated t) Characteristic h
@@ -282,7 +283,7 @@ each_list P (fs ∷ at) h = (All-from_recursion P fs h.0, each_list P at h.1)
 pub fit_problem : (bytes : List ℕ) (result : Result Problem ReadFault) → HasText bytes → ((t : ProblemText) → IsTextOf bytes t → Answers result t) → IfOk result HasFitPolys → IfOk result IsFitProblem
 fit_problem bytes (Err fault) text answer fit = tt
 fit_problem bytes (Ok problem) (t, is) answer fit =
-    let known : (first_fault t ≡ None) × (data_of problem ≡ problem_of t) = answer t is in
+    let known : (first_fault t ≡ None) × (problem_data problem ≡ problem_of t) = answer t is in
     let count : length problem.generators ≡ length t.generators =
     same_count (number t.characteristic) t.letters problem.generators t.generators (ap (λ (d : ProblemData). d.generators) known.1) in
     let some : 1 ≤ length t.generators = is.grammatical.generators.some in
@@ -291,8 +292,7 @@ fit_problem bytes (Ok problem) (t, is) answer fit =
     record {
       some = omega (arith, count, some);
       few = grind (arith, nat_tests);
-      generators = All-from_recursion P problem.generators fit.generators;
-      denominator = fit.denominator;
+      ready = record { generators = All-from_recursion P problem.generators fit.generators; denominator = fit.denominator };
       at = All-from_recursion (λ (fs : List Polynomial). All P fs) problem.at (each_list P problem.at fit.at);
     }
 

@@ -13,16 +13,15 @@ use Rattle.polys.specs.declared.term.Term.{Term}
 use Rattle.polys.specs.Terms.{EachMono, IsAffine, IsCanonical, OnlyFirst, keep}
 use Rattle.polys.specs.Poly.{Polynomial}
 use Rattle.singular_text.specs.declared.poly_reading.PartialTerm.{PartialTerm}
-use Rattle.singular_text.specs.Letters.{AreLetters}
+use Rattle.problem.specs.Letters.{AreLetters, is_among, place}
 use Rattle.singular_text.specs.PolyText.{power_text, factors, term_text, later_text, poly_text, is_shown_negative, shown_size}
 use Rattle.singular_text.specs.Parts.{star, factor_text, factors_text, is_some, size_part}
 use Rattle.singular_text.specs.PolyReading.{IsLow, IsPolyText, TextsTellPolynomials}
-use Rattle.singular_text.specs.Words.{is_among}
-use Rattle.singular_text.specs.Values.{number_after, place}
+use Rattle.singular_text.specs.Values.{number_after}
 use Rattle.singular_text.specs.TermReading.{begun, raised_within, settled, with_digit, with_letter, residue_of, finished, is_sign, terms_in, all_terms}
 use Rattle.singular_text.proofs.Reader.{in_byte, in_sign, in_end}
 use Rattle.singular_text.proofs.Texts.{test_no, test_yes, power_text-one, power_text-more, factor_text-none, factor_text-some, factors-none, size_text-parts, zero_or_not}
-use Rattle.singular_text.proofs.Wholes.{letters_alphabetic}
+use Rattle.problem.proofs.Places.{letters_alphabetic, letter_no_digit}
 
 -- ---- bytes
 
@@ -31,9 +30,6 @@ digit_no_sign b is = grind (arith, nat_tests)
 
 digit_no_minus : (b : ℕ) → is_ascii_digit b ≡ true → (b == 45) ≡ false
 digit_no_minus b is = grind (arith, nat_tests)
-
-letter_no_digit : (b : ℕ) → is_ascii_alphabetic b ≡ true → is_ascii_digit b ≡ false
-letter_no_digit b is = grind (arith, nat_tests)
 
 letter_no_sign : (b : ℕ) → is_ascii_alphabetic b ≡ true → is_sign b ≡ false
 letter_no_sign b is = grind (arith, nat_tests)

@@ -9,13 +9,13 @@ use Rattle.polys.specs.Terms.{EachMono, IsAffine, IsCanonical, Under}
 use Rattle.polys.specs.Poly.{IsVector}
 use Rattle.polys.proofs.Affine.{affine_unit}
 use Rattle.polys.proofs.Each.{every_more}
-use Rattle.singular_text.specs.Letters.{AreLetters}
+use Rattle.problem.specs.Letters.{AreLetters, is_among}
 use Rattle.singular_text.specs.PolyText.{poly_text}
 use Rattle.singular_text.specs.PolyReading.{IsLow, IsPolyText}
 use Rattle.singular_text.specs.declared.poly_reading.PartialTerm.{PartialTerm}
-use Rattle.singular_text.specs.Words.{is_among}
 use Rattle.singular_text.specs.TermReading.{begun, settled, settled_at, with_digit, with_letter, with_byte, residue_of, finished, is_sign, terms_in, all_terms, IsPartialTerm}
-use Rattle.singular_text.proofs.Monomials.{raised_mono, place_within}
+use Rattle.singular_text.proofs.Monomials.{raised_mono}
+use Rattle.problem.proofs.Places.{place_within}
 use Rattle.singular_text.proofs.Affine.{affine_raised}
 
 pub begun_partial : (n : ℕ) (b : Bool) → IsPartialTerm n (begun b)

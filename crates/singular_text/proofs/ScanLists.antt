@@ -10,7 +10,8 @@ use Rattle.singular_text.specs.declared.scanning.Place.TheVariants.{Start, Betwe
 use Rattle.singular_text.specs.declared.scanning.Part.{Part}
 use Rattle.singular_text.specs.declared.scanning.Part.TheVariants.{Ideal, Poly, At}
 use Rattle.singular_text.specs.declared.scanning.Scan.{Scan}
-use Rattle.singular_text.specs.Words.{is_among, is_name, digits_in}
+use Rattle.problem.specs.Letters.{is_among}
+use Rattle.singular_text.specs.Words.{is_name, digits_in}
 use Rattle.singular_text.specs.Expressions.{Expression, IsFormed, spelling, nesting, most_digits}
 use Rattle.singular_text.specs.ProblemText.{list_spelling, at_spelling, AreExpressions, greatest}
 use Rattle.singular_text.specs.Scanning.{scan, step, counting, end_statement_of, is_poly}

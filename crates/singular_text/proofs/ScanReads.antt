@@ -1,7 +1,6 @@
 -- A scan of the tokens that spell an expression.
-use Rattle.std.proofs.Common.{◌≡◌, ℕ, ◌+◌, ◌-◌, ◌≤◌, max, List, [], ◌∷◌, ◌++◌, Bool, true, false, cond, ◌==◌, ◌&&◌, suc, length, refl, ap, ◌∙◌, arith, append_assoc, Some, None}
+use Rattle.std.proofs.Common.{◌≡◌, ℕ, ◌+◌, ◌-◌, ◌≤◌, max, List, [], ◌∷◌, ◌++◌, Bool, true, false, cond, ◌==◌, ◌&&◌, suc, length, refl, ap, ◌∙◌, arith, append_assoc, Some, None, inl, inr}
 use Rattle.std.specs.Prelude.{codes, not, ◌⊎◌}
-use Rattle.std.proofs.Common.{inl, inr}
 use Rattle.std.proofs.lemmas.Bool.Decides.{nat_tests}
 use Rattle.std.specs.Char.{is_ascii_alphabetic, is_ascii_digit}
 use Rattle.std.specs.List.{list_all}
@@ -10,7 +9,9 @@ use Rattle.singular_text.specs.declared.words.Class.TheVariants as class
 use Rattle.singular_text.specs.declared.scanning.Place.{Place}
 use Rattle.singular_text.specs.declared.scanning.Place.TheVariants.{Start, Operand, Base, Caret, Factor, Between, PolyName, PolyEquals}
 use Rattle.singular_text.specs.declared.scanning.Scan.{Scan}
-use Rattle.singular_text.specs.Words.{is_among, is_number, class_of, digits_in, leading_digits}
+use Rattle.problem.specs.Letters.{is_among}
+use Rattle.problem.proofs.Places.{letter_no_digit}
+use Rattle.singular_text.specs.Words.{is_number, class_of, digits_in, leading_digits}
 use Rattle.singular_text.specs.Expressions.{Expression, Letter, Number, Parentheses, Run, Power, Product, Signed, Sum, rank, IsFormed, sign, spelling, nesting, most_digits}
 use Rattle.singular_text.specs.Scanning.{scan, step, step_at, in_expression, in_expression_at, counting, after_base, after_factor}
 use Rattle.singular_text.proofs.Marks.{open_class, close_class, caret_class, star_class, sign_has_class, number_class, run_class, letter_class}
@@ -68,9 +69,6 @@ all_digits digits = by_case (not (length digits == 0)) (list_all is_ascii_digit 
     by_case : (a b : Bool) → (a && b) ≡ true → b ≡ true
     by_case true b h = h
     by_case false b h = absurd (cc)
-
-letter_digit : (x : ℕ) → is_ascii_alphabetic x ≡ true → is_ascii_digit x ≡ false
-letter_digit x alphabetic = grind (arith, nat_tests)
 
 sign_digits : (is_negative : Bool) → digits_in (sign is_negative) ≡ 0
 sign_digits true = mark_digits 45 refl
@@ -213,7 +211,7 @@ module _ (letters : List ℕ) (are_letters : (x : ℕ) → is_among letters x �
   pub scan_reads : (e : Expression) → IsFormed letters e → (at_start : Bool) (s : Scan) (rest : List (List ℕ)) → Allowed at_start e → s.depth ≤ s.nesting
       → scan letters (record s { place = wanted at_start }) (spelling e ++ rest) ≡ scan letters (behind e s) rest
   scan_reads (Letter x) formed at_start s rest allows deep =
-      let none : digits_in (x ∷ []) ≡ 0 = mark_digits x (letter_digit x (are_letters x formed)) in
+      let none : digits_in (x ∷ []) ≡ 0 = mark_digits x (letter_no_digit x (are_letters x formed)) in
       read_base at_start s (x ∷ []) rest class.Variable (inr refl) (letter_class letters x (are_letters x formed) formed)
       ∙ ap (λ (z : Scan). scan letters z rest) (same_counts s Base s.nesting (max s.nesting (s.depth + 0)) (max s.digits (digits_in (x ∷ []))) (max s.digits 0) (omega arith) (omega arith))
   scan_reads (Number digits) formed at_start s rest allows deep =

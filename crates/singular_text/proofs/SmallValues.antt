@@ -8,7 +8,7 @@ use Rattle.polys.specs.Poly.{Polynomial, product_of, sum_of, difference_of}
 use Rattle.singular_text.specs.declared.faults.ReadFault.{ReadFault}
 use Rattle.singular_text.specs.declared.faults.ReadFault.TheVariants.{Limit}
 use Rattle.singular_text.specs.declared.faults.Which.TheVariants.{Size}
-use Rattle.singular_text.specs.Words.{is_among}
+use Rattle.problem.specs.Letters.{is_among}
 use Rattle.singular_text.specs.Expressions.{Expression, Letter, Number, Parentheses, Run, Power, Product, Signed, Sum, IsFormed, spelling}
 use Rattle.singular_text.specs.Values.{value, subexpressions, is_small}
 use Rattle.singular_text.specs.ProblemText.{has_small_values, list_spelling}

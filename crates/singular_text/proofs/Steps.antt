@@ -8,7 +8,8 @@ use Rattle.singular_text.specs.declared.faults.ReadFault.{ReadFault}
 use Rattle.singular_text.specs.declared.faults.ReadFault.TheVariants.{Syntax}
 use Rattle.singular_text.specs.declared.evaluation.Frame.{Frame}
 use Rattle.singular_text.specs.Words.{class_of}
-use Rattle.singular_text.specs.Evaluating.{IsFault, and_then, close, closed, pop, pop_behind, step, with_factor, new_frame, by_class, evaluate, IsFit, IsFitFrame}
+use Rattle.singular_text.specs.Evaluating.{IsFault, and_then, close, closed, pop, pop_behind, step, with_factor, new_frame, by_class, evaluate, IsFitFrame}
+use Rattle.problem.specs.Problem.{IsFit}
 use Rattle.singular_text.proofs.Handing.{fault_through}
 
 pub pop_end : (frames : List Frame) (frame : Frame) → pop (frames ++ frame ∷ []) ≡ Some (frames, frame)

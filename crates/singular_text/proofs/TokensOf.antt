@@ -1,7 +1,8 @@
 -- What a token is, by its class.
 use Rattle.std.proofs.Common.{◌≡◌, ℕ, List, [], ◌∷◌, Bool, true, false, cond, ◌==◌, refl, ap}
 use Rattle.std.specs.Prelude.{codes}
-use Rattle.singular_text.specs.Words.{is_among, is_number, is_run, class_of_byte, class_of_mark, class_of}
+use Rattle.problem.specs.Letters.{is_among}
+use Rattle.singular_text.specs.Words.{is_number, is_run, class_of_byte, class_of_mark, class_of}
 use Rattle.singular_text.specs.declared.words.Class.{Class}
 use Rattle.singular_text.specs.declared.words.Class.TheVariants.{Open, Close, Caret, Star, Plus, Minus, Comma, Semicolon, Number, Variable, Run, Other}
 use Rattle.singular_text.proofs.Lexing.{same_number}

@@ -9,9 +9,10 @@ use Rattle.std.proofs.lemmas.List.Sums.{list_all-from_AllPass}
 use Rattle.singular_text.specs.declared.scanning.Place.{Place}
 use Rattle.singular_text.specs.declared.scanning.Place.TheVariants.{Start, Operand, Base, Caret, Factor, Between, PolyName, PolyEquals}
 use Rattle.singular_text.specs.declared.scanning.Scan.{Scan}
-use Rattle.singular_text.specs.Letters.{IsLetter}
+use Rattle.problem.specs.Letters.{IsLetter, is_among}
+use Rattle.problem.proofs.Places.{all_alphabetic, letters_alphabetic}
 use Rattle.singular_text.specs.Tokens.{tokens}
-use Rattle.singular_text.specs.Words.{is_among, is_name, is_number}
+use Rattle.singular_text.specs.Words.{is_name, is_number}
 use Rattle.singular_text.specs.Reading.{begun_at, ring_at, Gives}
 use Rattle.singular_text.specs.Scanning.{scan, first_scan}
 use Rattle.singular_text.specs.ProblemText.{ProblemText, IsGrammatical, IsTextOf, HasText, problem_spelling, letters_spelling, ideal_spelling, denominator_spelling, at_spelling}
@@ -21,27 +22,6 @@ use Rattle.singular_text.proofs.Rings.{ring_is, ring_some, RingFound, ideal_is, 
 use Rattle.singular_text.proofs.Bodies.{body_read, BodyRead, body_found, BodyFound}
 
 -- ---- letters
-
-letter_is : (x : ℕ) → IsLetter x → is_ascii_alphabetic x ≡ true
-letter_is x (inl h) = grind (arith, nat_tests)
-letter_is x (inr h) = grind (arith, nat_tests)
-
-pub all_alphabetic : (letters : List ℕ) → All IsLetter letters → list_all is_ascii_alphabetic letters ≡ true
-all_alphabetic letters each = list_all-from_AllPass is_ascii_alphabetic letters (λ k d within. letter_is _ (each k d within))
-
-among_alphabetic : (letters : List ℕ) (x : ℕ) → list_all is_ascii_alphabetic letters ≡ true → is_among letters x ≡ true → is_ascii_alphabetic x ≡ true
-among_alphabetic [] x all among = absurd (cc)
-among_alphabetic (y ∷ letters) x all among = by_case (y == x) (is_ascii_alphabetic y) refl refl all among (among_alphabetic letters x)
-  where
-    by_case : (b a : Bool) → (y == x) ≡ b → is_ascii_alphabetic y ≡ a → (a && list_all is_ascii_alphabetic letters) ≡ true → (b || is_among letters x) ≡ true
-        → (list_all is_ascii_alphabetic letters ≡ true → is_among letters x ≡ true → is_ascii_alphabetic x ≡ true) → is_ascii_alphabetic x ≡ true
-    by_case true true is alphabetic h g more = ap is_ascii_alphabetic (sym (same_number y x is)) ∙ alphabetic
-    by_case true false is alphabetic h g more = absurd (cc)
-    by_case false true is alphabetic h g more = more h g
-    by_case false false is alphabetic h g more = absurd (cc)
-
-pub letters_alphabetic : (letters : List ℕ) → All IsLetter letters → (x : ℕ) → is_among letters x ≡ true → is_ascii_alphabetic x ≡ true
-letters_alphabetic letters each x among = among_alphabetic letters x (all_alphabetic letters each) among
 
 -- no letter stands twice, as the code tests it
 abbrev pub AreDistinct : List ℕ → Type 0

@@ -3,8 +3,10 @@ use Rattle.std.specs.Prelude.{ℕ, ◌≡◌, ◌≤◌, ◌%◌, if◌then◌el
 use Rattle.monomials.specs.Mono.{unit, variable}
 use Rattle.polys.specs.Terms.{IsPoly, degree_of}
 use Rattle.polys.specs.Poly.{Polynomial, sum_of, difference_of, product_of, power_of}
+use Rattle.problem.specs.Letters.{place}
+use Rattle.problem.specs.Problem.{IsFit}
 use Rattle.singular_text.specs.Words.{class_of}
-use Rattle.singular_text.specs.Values.{number, place, front_number, run_monomial, term_of, is_small}
+use Rattle.singular_text.specs.Values.{number, front_number, run_monomial, term_of, is_small}
 use Rattle.singular_text.specs.declared.words.Class.{Class}
 use Rattle.singular_text.specs.declared.words.Class.TheVariants as class
 use Rattle.singular_text.specs.declared.faults.ReadFault.{ReadFault}
@@ -29,12 +31,6 @@ AgreesStep (Err fault) frames read = IsFault fault read
 abbrev pub and_then : {A B : Type 0} → Result A ReadFault → (A → Result B ReadFault) → Result B ReadFault
 and_then (Ok x) next = next x
 and_then (Err fault) next = Err fault
-
--- the polynomial modulo p is in the variables of the letters, and small enough to be multiplied
-pub record IsFit (p n : ℕ) (f : Polynomial) : Type 0 where
-  pub prime : f.prime ≡ p
-  pub poly : IsPoly p n f.terms
-  pub degree : degree_of f.terms ≤ 60
 
 abbrev pub checked : Polynomial → Result Polynomial ReadFault
 checked f = if is_small f.terms then Ok f else Err (Limit Size)

@@ -1,6 +1,7 @@
 -- Expressions as trees, and the tokens that spell them.
 use Rattle.std.specs.Prelude.{ℕ, ◌≡◌, ◌+◌, ◌≤◌, max, length, codes, if◌then◌else◌, Bool, IsTrue, List, [], ◌∷◌, ◌++◌}
-use Rattle.singular_text.specs.Words.{is_among, is_number, is_run, digits_in}
+use Rattle.problem.specs.Letters.{is_among}
+use Rattle.singular_text.specs.Words.{is_number, is_run, digits_in}
 
 -- an expression as a tree. The grammar has bases (letters, numbers, parentheses), factors (runs and bases, also with an
 -- exponent), terms (products of factors) and expressions (sums of terms, where the first may have a sign)

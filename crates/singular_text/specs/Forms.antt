@@ -10,13 +10,14 @@ use Rattle.singular_text.specs.declared.scanning.Scan.{Scan}
 use Rattle.singular_text.specs.declared.faults.ReadFault.{ReadFault}
 use Rattle.singular_text.specs.declared.faults.ReadFault.TheVariants.{Characteristic, Limit}
 use Rattle.singular_text.specs.declared.faults.Which.TheVariants.{Variables, Generators, Points, Nesting, Digits}
-use Rattle.singular_text.specs.declared.problem.Problem.{Problem}
+use Rattle.problem.specs.declared.problem.Problem.{Problem}
 use Rattle.singular_text.specs.Expressions.{Expression, nesting, most_digits}
-use Rattle.singular_text.specs.Letters.{IsLetter}
+use Rattle.problem.specs.Letters.{IsLetter}
 use Rattle.singular_text.specs.Values.{number}
 use Rattle.singular_text.specs.Reading.{begun_at}
 use Rattle.singular_text.specs.Scanning.{scan, first_scan}
-use Rattle.singular_text.specs.Evaluating.{IsFit, and_then, evaluate, new_frame}
+use Rattle.problem.specs.Problem.{IsFit}
+use Rattle.singular_text.specs.Evaluating.{and_then, evaluate, new_frame}
 use Rattle.singular_text.specs.ProblemText.{ProblemText, DenominatorText, IsTextOf, HasText, list_spelling, denominator_spelling, at_spelling, denominators, greatest}
 
 -- ---- the form

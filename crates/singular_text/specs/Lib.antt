@@ -1,8 +1,6 @@
-pub mod Letters
 pub mod PolyText
 pub mod Printing
 pub mod Parts
-pub mod Problem
 pub mod Tokens
 pub mod Words
 pub mod Scanning

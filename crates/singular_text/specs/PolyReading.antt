@@ -4,7 +4,7 @@ use Rattle.prime_field.specs.Primes.{IsCharacteristic}
 use Rattle.monomials.specs.Mono.{Monomial, total_degree}
 use Rattle.polys.specs.declared.term.Term.{Term}
 use Rattle.polys.specs.Terms.{EachMono, IsPoly}
-use Rattle.singular_text.specs.Letters.{AreLetters}
+use Rattle.problem.specs.Letters.{AreLetters}
 use Rattle.singular_text.specs.PolyText.{poly_text}
 
 -- a monomial of the greatest degree that the program has, or of a smaller one

@@ -4,13 +4,13 @@ use Rattle.std.specs.List.{list_all, AllByRecursion}
 use Rattle.prime_field.specs.Primes.{characteristics}
 use Rattle.prime_field.specs.Primes as primes
 use Rattle.polys.specs.declared.term.Term.{Term}
-use Rattle.singular_text.specs.Letters.{IsLetter}
+use Rattle.problem.specs.Letters.{IsLetter}
 use Rattle.singular_text.specs.Tokens.{tokens}
 use Rattle.singular_text.specs.Words.{is_name, is_number}
 use Rattle.singular_text.specs.Expressions.{Expression, IsFormed, spelling, nesting, most_digits}
 use Rattle.singular_text.specs.Values.{number, value, subexpressions, is_small}
-use Rattle.singular_text.specs.Problem.{ProblemData, data_of}
-use Rattle.singular_text.specs.declared.problem.Problem.{Problem}
+use Rattle.problem.specs.Problem.{ProblemData, IsProblem, problem_data}
+use Rattle.problem.specs.declared.problem.Problem.{Problem}
 use Rattle.singular_text.specs.declared.faults.ReadFault.{ReadFault}
 use Rattle.singular_text.specs.declared.faults.ReadFault.TheVariants.{Syntax, Characteristic, Limit, Memory}
 use Rattle.singular_text.specs.declared.faults.Which.TheVariants.{Variables, Generators, Points, Nesting, Digits, Size}
@@ -143,6 +143,10 @@ problem_of t = record {
   at = map (map (value (number t.characteristic) t.letters)) t.at;
 }
 
+-- what a text of the grammar states, where nothing is wrong with it, is a problem
+abbrev pub TextsStateProblems : Type 0
+TextsStateProblems = (bytes : List ℕ) (t : ProblemText) → IsTextOf bytes t → first_fault t ≡ None → IsProblem (problem_of t)
+
 -- ---- what is answered
 
 -- the answer is a problem, or a fault of a text of the grammar
@@ -154,6 +158,6 @@ IsOfText (Err fault) = Unit {0}
 
 -- the answer to the text: the problem that it states where it has no fault, or its first fault, or want of memory
 abbrev pub Answers : Result Problem ReadFault → ProblemText → Type 0
-Answers (Ok problem) t = (first_fault t ≡ None) × (data_of problem ≡ problem_of t)
+Answers (Ok problem) t = (first_fault t ≡ None) × (problem_data problem ≡ problem_of t)
 Answers (Err Memory) t = Unit {0}
 Answers (Err fault) t = first_fault t ≡ Some fault

@@ -5,8 +5,8 @@ use Rattle.monomials.specs.Mono.{Monomial, IsMono, unit, total_degree}
 use Rattle.polys.specs.declared.term.Term.{Term}
 use Rattle.polys.specs.Terms.{IsAffine, keep}
 use Rattle.singular_text.specs.declared.poly_reading.PartialTerm.{PartialTerm}
-use Rattle.singular_text.specs.Values.{place, raised}
-use Rattle.singular_text.specs.Words.{is_among}
+use Rattle.problem.specs.Letters.{place, is_among}
+use Rattle.singular_text.specs.Values.{raised}
 
 -- nothing was read behind the sign
 abbrev pub begun : Bool → PartialTerm

@@ -4,6 +4,7 @@ use Rattle.std.specs.Char.{is_ascii_digit}
 use Rattle.monomials.specs.Mono.{Monomial, unit, variable}
 use Rattle.polys.specs.declared.term.Term.{Term}
 use Rattle.polys.specs.Terms.{normal, add, sub, mul, power, degree_of}
+use Rattle.problem.specs.Letters.{place}
 use Rattle.singular_text.specs.Expressions.{Expression, Letter, Number, Parentheses, Run, Power, Product, Signed, Sum}
 
 -- the number that these digits continue, where n stands before them
@@ -14,11 +15,6 @@ number_after n (d ∷ digits) = number_after (n * 10 + (d - 48)) digits
 -- the number that these decimal digits write
 abbrev pub number : List ℕ → ℕ
 number digits = number_after 0 digits
-
--- the place of a letter
-abbrev pub place : List ℕ → ℕ → ℕ
-place [] x = 0
-place (y ∷ letters) x = if y == x then 0 else suc (place letters x)
 
 -- the digits at the front
 abbrev pub front_digits : List ℕ → List ℕ

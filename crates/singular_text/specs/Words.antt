@@ -3,13 +3,10 @@ use Rattle.std.specs.Prelude.{ℕ, ◌≡◌, ◌==◌, ◌&&◌, ◌||◌, nat_
 use Rattle.std.specs.List.{list_all, list_any}
 use Rattle.std.specs.Cmp.Lexicographic.{pointwise}
 use Rattle.std.specs.Char.{is_ascii_digit, is_ascii_alphabetic}
+use Rattle.problem.specs.Letters.{is_among}
 use Rattle.singular_text.specs.Tokens.{begins}
 use Rattle.singular_text.specs.declared.words.Class.{Class}
 use Rattle.singular_text.specs.declared.words.Class.TheVariants.{Open, Close, Caret, Star, Plus, Minus, Comma, Semicolon, Number, Variable, Run, Other}
-
--- the byte is one of the letters
-abbrev pub is_among : List ℕ → ℕ → Bool
-is_among letters b = list_any (λ x. x == b) letters
 
 -- the tokens are equal
 abbrev pub same_token : List ℕ → List ℕ → Bool

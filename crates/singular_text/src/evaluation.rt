@@ -5,25 +5,23 @@ ghost use Rattle.monomials.specs.Mono.{unit, variable, total_degree, IsMono};
 ghost use Rattle.polys.specs.Terms.{degree_of, IsAffine};
 ghost use Rattle.polys.specs.Poly.{power_of, product_of, sum_of, difference_of};
 ghost use Rattle.singular_text.specs.Tokens.{tokens};
-ghost use Rattle.singular_text.specs.Words.{class_of, is_among, is_run, IsLetterOf};
-ghost use Rattle.singular_text.specs.Values.{number, place, front_number, run_monomial, term_of, is_small};
-ghost use Rattle.singular_text.specs.Evaluating.{IsFault, Agrees, AgreesStep, IsFit, IsFitFrame, checked, zero_poly, term_with, last_term, sum_with, close, new_frame, signed_frame, with_factor, star, sign_step, constant, variable_token, run_value, power_value, number_step, inner_step, step, evaluate};
+ghost use Rattle.singular_text.specs.Words.{class_of, is_run, IsLetterOf};
+ghost use Rattle.problem.specs.Letters.{is_among, place};
+ghost use Rattle.singular_text.specs.Values.{number, front_number, run_monomial, term_of, is_small};
+ghost use Rattle.singular_text.specs.Evaluating.{IsFault, Agrees, AgreesStep, IsFitFrame, checked, zero_poly, term_with, last_term, sum_with, close, new_frame, signed_frame, with_factor, star, sign_step, constant, variable_token, run_value, power_value, number_step, inner_step, step, evaluate};
+ghost use Rattle.problem.specs.Problem.{IsFit};
 
-use crate::Letters;
 use crate::faults::{ReadFault, Which};
 use crate::tokens::next_token;
-use crate::values::{
-    DEGREE, digit_value, front_modulo, number_modulo, number_up_to, place, run_monomial,
-};
+use crate::values::{digit_value, front_modulo, number_modulo, number_up_to, run_monomial};
 use crate::words::{Class, class_of};
 use lists::List;
 use monomials::Mono;
 use polys::{Poly, Term, degrees_are_bounded, leads_multiply, polynomials_are_a_ring};
 use prime_field::Prime;
+use problem::limits::{MAX_DEGREE, MAX_TERMS};
+use problem::{Letters, place};
 use std::alloc::Global;
-
-// The greatest number of terms of a value.
-const TERMS: usize = 2000;
 
 /// What was read of an expression since the last open parenthesis.
 #[derive(Debug, Drop)]
@@ -96,7 +94,7 @@ fn checked(f: Poly) -> Result<Poly, ReadFault>
     ensures exact { result ≡ checked f }
     ensures degree { IfOk result (λ r. (r ≡ f) × (degree_of r.terms ≤ 60)) }
 {
-    if f.terms().len() > TERMS || f.degree() > DEGREE {
+    if f.terms().len() > MAX_TERMS || f.degree() > MAX_DEGREE {
         return Err(ReadFault::Limit(Which::Size));
     }
     Ok(f)
@@ -188,8 +186,8 @@ impl Ground {
         self.prime.get();
         polynomials_are_a_ring();
         leads_multiply();
-        let n = number_up_to(DEGREE + 1, digits);
-        if n * degree > DEGREE {
+        let n = number_up_to(MAX_DEGREE + 1, digits);
+        if n * degree > MAX_DEGREE {
             return Err(ReadFault::Limit(Which::Size));
         }
         checked(base.power(n)?)

@@ -6,10 +6,10 @@
 
 mod evaluation;
 mod faults;
-mod letters;
+mod laws;
 mod poly_reading;
 mod printing;
-mod problem;
+mod reading;
 mod ring;
 mod scanning;
 mod tokens;
@@ -17,10 +17,11 @@ mod values;
 mod words;
 
 pub use faults::{PolyFault, ReadFault, Which};
-pub use letters::Letters;
+pub use laws::texts_state_problems;
 pub use poly_reading::{read_poly, texts_tell_polynomials};
 pub use printing::{print_bytes, print_number, print_poly};
-pub use problem::{Problem, read_problem};
+pub use problem::{Letters, Problem};
+pub use reading::read_problem;
 pub use values::number_up_to;
 pub use words::is_number;
 

@@ -9,14 +9,13 @@ ghost use Rattle.singular_text.specs.TermReading.{begun, raised_within, settled,
 ghost use Rattle.singular_text.specs.declared.faults.PolyFault.TheVariants.{NotPoly, Memory};
 
 use crate::faults::PolyFault;
-use crate::letters::Letters;
 use crate::printing::print_poly;
-use crate::values::{digit_value, place, raised};
-use crate::words::is_among;
+use crate::values::{digit_value, raised};
 use lists::NoMemory;
 use monomials::Mono;
 use polys::{Poly, Term};
 use prime_field::Prime;
+use problem::{Letters, is_among, place};
 use std::alloc::Global;
 use std::cmp::Ordering;
 

@@ -5,12 +5,12 @@ ghost use Rattle.singular_text.specs.Parts.{star, factor_text, factors_text, is_
 ghost use Rattle.singular_text.specs.PolyText.{power_text, factors, term_text, later_text, poly_text, shown_size, is_shown_negative};
 ghost use Rattle.singular_text.specs.Printing.{Prints};
 
-use crate::Letters;
 use itoa::Buffer;
 use lists::{List, NoMemory};
 use monomials::Mono;
 use polys::{Poly, Term};
 use prime_field::Prime;
+use problem::Letters;
 
 /// Appends the bytes. On want of memory a front of them is appended.
 pub fn print_bytes(bytes: &[u8], out: &mut List<u8>) -> Result<(), NoMemory>

@@ -39,22 +39,6 @@ fn polynomial(alloc: Global, p: Prime, terms: &[(u32, u32, u32)]) -> Result<Poly
 }
 
 #[test]
-fn letters_are_one_to_six_and_distinct(rt: HostRuntime) {
-    for known in ["x", "X", "xy", "xyzuvw", "xXyYzZ"] {
-        let letters = Letters::new(known.as_bytes());
-        assert!(rt;
-            letters.is_some_and(|l| l.as_slice() == known.as_bytes()),
-            "at {known}"
-        );
-    }
-    for unknown in [
-        "", "xyzuvwa", "xx", "xyx", "x1", "x ", "_", "@", "[", "`", "{",
-    ] {
-        assert!(rt; Letters::new(unknown.as_bytes()).is_none(), "at {unknown}");
-    }
-}
-
-#[test]
 fn polynomials_have_one_text(rt: HostRuntime) -> Result<(), Fail> {
     let letters = Letters::new(b"xy").ok_or("letters")?;
     for (p, terms, text) in [

@@ -1,15 +1,14 @@
 // The numbers and monomials that words write.
-ghost use Rattle.std.specs.Prelude.{◌≡◌, ◌≤◌, ◌<◌, ◌+◌, ◌*◌, ◌-◌, ◌%◌, min, length};
-ghost use Rattle.std.specs.Prelude.{take, true, ◌∷◌, IfSome, MatchOption};
+ghost use Rattle.std.specs.Prelude.{◌≡◌, ◌≤◌, ◌<◌, ◌+◌, ◌*◌, ◌-◌, ◌%◌, min, length, take, true, ◌∷◌, IfSome, MatchOption};
 ghost use Rattle.monomials.specs.Mono.{unit, total_degree, IsMono};
-ghost use Rattle.singular_text.specs.Words.{is_among, are_run_bytes};
-ghost use Rattle.singular_text.specs.Values.{number, front_digits, front_number, place, raised, run_after, run_monomial};
+ghost use Rattle.problem.specs.Letters.{is_among, place};
+ghost use Rattle.singular_text.specs.Words.{are_run_bytes};
+ghost use Rattle.singular_text.specs.Values.{number, front_digits, front_number, raised, run_after, run_monomial};
 
 use monomials::Mono;
 use prime_field::Prime;
-
-/// The greatest degree of a value.
-pub const DEGREE: u32 = 60;
+use problem::limits::MAX_DEGREE;
+use problem::place;
 
 /// The value of a digit.
 pub fn digit_value(digit: u8) -> u32
@@ -57,18 +56,6 @@ pub fn digits_at_front(word: &[u8]) -> usize
     word.len()
 }
 
-/// The place of a letter, or the number of letters where it is none of them.
-pub fn place(letters: &[u8], letter: u8) -> usize
-    ensures { result ≡ place letters.now letter }
-{
-    for (i, x) in letters.iter().enumerate() {
-        if *x == letter {
-            return i;
-        }
-    }
-    letters.len()
-}
-
 // The power `e` of the variable `v`, by about log e products.
 fn variable_power(v: u32, e: u32) -> Mono
     requires variable { v < 6 }
@@ -107,7 +94,7 @@ fn with_letter(letters: &[u8], mono: Mono, letter: u8, behind: &[u8]) -> Option<
     ensures known { IfSome result (λ m. IsMono m × (total_degree m.exponents ≤ 60)) }
 {
     let e = exponent_at(behind);
-    if mono.degree() + e > DEGREE {
+    if mono.degree() + e > MAX_DEGREE {
         return None;
     }
     Some(raised(mono, place(letters, letter) as u32, e))
@@ -150,7 +137,7 @@ fn exponent_at(word: &[u8]) -> u32
     if count == 0 {
         return 1;
     }
-    number_up_to(DEGREE + 1, &word[..count])
+    number_up_to(MAX_DEGREE + 1, &word[..count])
 }
 
 /// The number at the front of a run modulo p, which is 1 where no digit stands there.

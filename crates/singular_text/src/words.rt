@@ -2,7 +2,10 @@
 ghost use Rattle.std.specs.Prelude.{◌≡◌, ◌==◌, ◌&&◌, ◌||◌, ◌+◌, ◌<◌, ◌≤◌, nat_lt, if◌then◌else◌, not, length};
 ghost use Rattle.std.specs.List.{list_all};
 ghost use Rattle.std.specs.Char.{is_ascii_digit};
-ghost use Rattle.singular_text.specs.Words.{is_among, are_run_bytes, is_name, is_number, is_run, class_of_byte, class_of_mark, class_of, same_token, digits_in};
+ghost use Rattle.problem.specs.Letters.{is_among};
+ghost use Rattle.singular_text.specs.Words.{are_run_bytes, is_name, is_number, is_run, class_of_byte, class_of_mark, class_of, same_token, digits_in};
+
+use problem::is_among;
 
 /// What a token is in an expression.
 #[derive(Clone, Copy, Debug, PartialEq, Eq)]
@@ -19,13 +22,6 @@ pub enum Class {
     Variable,
     Run,
     Other,
-}
-
-/// Whether the byte is one of the letters.
-pub fn is_among(letters: &[u8], byte: u8) -> bool
-    ensures { result ≡ is_among letters.now byte }
-{
-    letters.contains(&byte)
 }
 
 /// Whether the token is this word or mark.

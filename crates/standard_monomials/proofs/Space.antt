@@ -15,10 +15,10 @@ use Rattle.polys.specs.Terms.{IsPoly, keep, add, sub, mul, products}
 use Rattle.polys.specs.Ideal.{InIdeal, number_combination, Spans}
 use Rattle.polys.specs.Ring.{Member}
 use Rattle.polys.proofs.Affine.{constant, poly_constant, mul_constant, sevens_of}
-use Rattle.polys.proofs.Ideals.{in_none, in_add, in_mul}
+use Rattle.ideal_laws.proofs.Ideals.{in_none, in_add, in_mul}
 use Rattle.polys.proofs.Instance.{polynomials}
 use Rattle.polys.proofs.Sums.{add_normal_left, add_normal_right, mul_normal_left, mul_normal_right}
-use Rattle.polys.proofs.Unique.{contains_head, contains_tail, contains_cases, contains_none}
+use Rattle.ideal_laws.proofs.Unique.{contains_head, contains_tail, contains_cases, contains_none}
 use Rattle.polys.proofs.Weights.{Alike, weigh, normal_ext}
 use Rattle.homogenising.proofs.Spanning.{pos, two}
 

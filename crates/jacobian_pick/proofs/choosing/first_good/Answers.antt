@@ -3,7 +3,7 @@ use Rattle.std.specs.List.{All}
 use Rattle.std.proofs.lemmas.List.{take_all}
 use Rattle.module_basis.specs.Gens.{term_lists}
 use Rattle.jacobian_pick.specs.Choice.{IsGood}
-use Rattle.jacobian_pick.specs.Lists.{problem_data}
+use Rattle.problem.specs.Problem.{problem_data}
 use Rattle.jacobian_pick.specs.declared.choosing.PickStop.TheVariants.{Memory}
 use Rattle.jacobian_pick.proofs.Choices.{found, one_more_bad, reason_is_bad}
 use Rattle.jacobian_pick.proofs.choosing.first_good.Goals as goal

@@ -2,7 +2,7 @@ use Rattle.std.proofs.Common.{take}
 use Rattle.std.specs.List.{All}
 use Rattle.module_basis.specs.Gens.{term_lists}
 use Rattle.jacobian_pick.specs.Choice.{IsGood}
-use Rattle.jacobian_pick.specs.Lists.{problem_data}
+use Rattle.problem.specs.Problem.{problem_data}
 use Rattle.jacobian_pick.proofs.choosing.first_good.Given as goal
 
 abbrev pub invariant-loop-d : goal.invariant-loop-d

@@ -4,7 +4,7 @@ use Rattle.std.proofs.lemmas.Result.{IfOk-weaker, err_from_is_err_and}
 use Rattle.polys.specs.Poly.{Polynomial}
 use Rattle.polys.specs.Terms.{IsCanonical}
 use Rattle.jacobian_pick.specs.Choice.{IsCause}
-use Rattle.jacobian_pick.specs.Lists.{problem_data}
+use Rattle.problem.specs.Problem.{problem_data}
 use Rattle.jacobian_pick.specs.declared.choosing.PickStop.TheVariants.{Unit}
 use Rattle.jacobian_pick.proofs.Choices.{fit_all, same_dimension, proper_all, proper_by, unit_by, one_over}
 use Rattle.jacobian_pick.proofs.Uniqueness.{exact_answer, complete_answer, exact_refusal, complete_refusal}

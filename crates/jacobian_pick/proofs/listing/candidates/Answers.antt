@@ -2,7 +2,8 @@ use Rattle.std.proofs.Common.{◌≡◌, ◌++◌, length, sym, subst}
 use Rattle.std.specs.List.{All}
 use Rattle.module_basis.specs.Gens.{term_lists}
 use Rattle.jacobian_pick.specs.Candidates.{AreCandidates, AreSecond, AreThird}
-use Rattle.jacobian_pick.specs.Lists.{IsUpTo, problem_data}
+use Rattle.jacobian_pick.specs.Lists.{IsUpTo}
+use Rattle.problem.specs.Problem.{problem_data}
 use Rattle.jacobian_pick.proofs.Listings.{all_up_to, all_candidates}
 use Rattle.jacobian_pick.proofs.listing.candidates.Goals as goal
 

@@ -1,6 +1,6 @@
 use Rattle.std.proofs.Common.{ap, ◌∙◌, refl, inl, inr}
 use Rattle.std.proofs.lemmas.Result.{err_from_is_err_and}
-use Rattle.singular_text.specs.Problem.{data_of}
+use Rattle.problem.specs.Problem.{problem_data}
 use Rattle.norm_text.specs.Answer.{answer_text}
 use Rattle.norm_text.specs.Plain.{plain_answer}
 use Rattle.norm_core.specs.Telling.{not_yet}
@@ -10,12 +10,12 @@ use Rattle.norm_core.proofs.solving.solve.Goals as goal
 pub returns-in_err-lifted-clause-refused : goal.returns-in_err-lifted-clause-refused
 returns-in_err-lifted-clause-refused c =
     let e = err_from_is_err_and c.from_residual.result c.from_residual.ensures.1 in
-    cause-refused (data_of c.args.problem) c.args.cap c.in_err-lifted.field-0.0 c.from_residual.result e.0 e.1 e.2 c.in_err-lifted.ensures.cause
+    cause-refused (problem_data c.args.problem) c.args.cap c.in_err-lifted.field-0.0 c.from_residual.result e.0 e.1 e.2 c.in_err-lifted.ensures.cause
 
 pub returns-then-not-branch-clause-refused : goal.returns-then-not-branch-clause-refused
 returns-then-not-branch-clause-refused c =
     let known = c.in_ok-lifted.ensures in
-    let picked : IsPickedOf (data_of c.args.problem) c.args.cap c.in_ok-lifted.lifted = record {
+    let picked : IsPickedOf (problem_data c.args.problem) c.args.cap c.in_ok-lifted.lifted = record {
       lifted = known.lifted;
       known = c.ideal_basis-basis.ensures.known;
       has = record { proper = known.proper; chosen = known.chosen };
@@ -26,34 +26,34 @@ returns-then-not-branch-clause-refused c =
 pub returns-then-not-branch-clause-exact : goal.returns-then-not-branch-clause-exact
 returns-then-not-branch-clause-exact c status text solves =
     let known = c.in_ok-lifted.ensures in
-    let picked : IsPickedOf (data_of c.args.problem) c.args.cap c.in_ok-lifted.lifted = record {
+    let picked : IsPickedOf (problem_data c.args.problem) c.args.cap c.in_ok-lifted.lifted = record {
       lifted = known.lifted;
       known = c.ideal_basis-basis.ensures.known;
       has = record { proper = known.proper; chosen = known.chosen };
       dimension = known.dimension;
     } in
-    inl (unserved-status (data_of c.args.problem) c.args.cap c.in_ok-lifted.lifted.denominator.terms picked.has
+    inl (unserved-status (problem_data c.args.problem) c.args.cap c.in_ok-lifted.lifted.denominator.terms picked.has
     (λ stop not cause. no_error (known.exact stop not cause)) (λ proper d chosen. known.complete proper d chosen)
     (unserved-by c.args.problem c.args.cap c.in_ok-lifted.lifted picked (c.in_ok-is_served.ensures.no (cc))) status text solves)
 
 pub returns-then-not-branch-clause-complete : goal.returns-then-not-branch-clause-complete
 returns-then-not-branch-clause-complete c d has served =
     let known = c.in_ok-lifted.ensures in
-    let picked : IsPickedOf (data_of c.args.problem) c.args.cap c.in_ok-lifted.lifted = record {
+    let picked : IsPickedOf (problem_data c.args.problem) c.args.cap c.in_ok-lifted.lifted = record {
       lifted = known.lifted;
       known = c.ideal_basis-basis.ensures.known;
       has = record { proper = known.proper; chosen = known.chosen };
       dimension = known.dimension;
     } in
     absurd
-    (unserved-not_answered (data_of c.args.problem) c.args.cap c.in_ok-lifted.lifted.denominator.terms picked.has
+    (unserved-not_answered (problem_data c.args.problem) c.args.cap c.in_ok-lifted.lifted.denominator.terms picked.has
     (λ stop not cause. no_error (known.exact stop not cause)) (λ proper e chosen. known.complete proper e chosen)
     (unserved-by c.args.problem c.args.cap c.in_ok-lifted.lifted picked (c.in_ok-is_served.ensures.no (cc))) d has served)
 
 pub returns-clause-answered : goal.returns-clause-answered
 returns-clause-answered c =
     let known = c.in_ok-lifted.ensures in
-    let picked : IsPickedOf (data_of c.args.problem) c.args.cap c.in_ok-lifted.lifted = record {
+    let picked : IsPickedOf (problem_data c.args.problem) c.args.cap c.in_ok-lifted.lifted = record {
       lifted = known.lifted;
       known = c.ideal_basis-basis.ensures.known;
       has = record { proper = known.proper; chosen = known.chosen };
@@ -61,17 +61,17 @@ returns-clause-answered c =
     } in
     plain-solves c.args.problem c.args.cap c.in_ok-lifted.lifted c.in_ok-plain_text.field-0 c.requires.fit picked
     (served-by c.args.problem c.args.cap c.in_ok-lifted.lifted picked (c.in_ok-is_served.ensures.yes (cc)))
-    (c.in_ok-plain_text.ensures ∙ ap (λ f. answer_text (plain_answer (data_of c.args.problem) f.terms)) c.denominator.ensures)
+    (c.in_ok-plain_text.ensures ∙ ap (λ f. answer_text (plain_answer (problem_data c.args.problem) f.terms)) c.denominator.ensures)
 
 pub returns-clause-exact : goal.returns-clause-exact
 returns-clause-exact c status text solves =
     let known = c.in_ok-lifted.ensures in
-    let picked : IsPickedOf (data_of c.args.problem) c.args.cap c.in_ok-lifted.lifted = record {
+    let picked : IsPickedOf (problem_data c.args.problem) c.args.cap c.in_ok-lifted.lifted = record {
       lifted = known.lifted;
       known = c.ideal_basis-basis.ensures.known;
       has = record { proper = known.proper; chosen = known.chosen };
       dimension = known.dimension;
     } in
-    inl (served-status (data_of c.args.problem) c.args.cap c.in_ok-lifted.lifted.denominator.terms picked.has
+    inl (served-status (problem_data c.args.problem) c.args.cap c.in_ok-lifted.lifted.denominator.terms picked.has
     (λ stop not cause. no_error (known.exact stop not cause)) (λ proper d chosen. known.complete proper d chosen)
     (served-by c.args.problem c.args.cap c.in_ok-lifted.lifted picked (c.in_ok-is_served.ensures.yes (cc))) status text solves)

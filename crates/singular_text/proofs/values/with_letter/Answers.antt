@@ -1,5 +1,5 @@
 use Rattle.std.proofs.Common.{◌<◌, arith}
-use Rattle.singular_text.specs.Values.{place}
+use Rattle.problem.specs.Letters.{place}
 use Rattle.singular_text.proofs.Monomials.{letter_place}
 use Rattle.singular_text.proofs.values.with_letter.Goals as goal
 

@@ -1,8 +1,7 @@
-use Rattle.std.proofs.Common.{length, ◌∙◌, subst, sym}
+use Rattle.std.proofs.Common.{length, ◌∙◌, subst, sym, ap, Ok}
 use Rattle.singular_text.specs.declared.evaluation.Frame.{Frame}
 use Rattle.singular_text.specs.Evaluating.{IsFitFrame}
 use Rattle.singular_text.proofs.Steps.{close_some, close_none, last_fits, no_more}
-use Rattle.std.proofs.Common.{ap, Ok}
 use Rattle.singular_text.proofs.evaluation.Ground.step.Goals as goal
 
 pub returns-in-Some-clause-exact : goal.returns-in-Some-clause-exact

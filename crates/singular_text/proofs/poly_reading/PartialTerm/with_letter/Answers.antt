@@ -1,6 +1,6 @@
 use Rattle.std.proofs.Common.{◌≤◌, length, arith}
-use Rattle.singular_text.specs.Values.{place}
-use Rattle.singular_text.proofs.Monomials.{place_most}
+use Rattle.problem.specs.Letters.{place}
+use Rattle.problem.proofs.Places.{place_most}
 use Rattle.singular_text.proofs.poly_reading.PartialTerm.with_letter.Goals as goal
 
 pub overflow_cast-result : goal.overflow_cast-result
