@@ -5,7 +5,7 @@ ghost use Rattle.jacobian_pick.specs.Lists.{IsBasisOf, IsUpTo};
 ghost use Rattle.problem.specs.Problem.{IsReady, problem_data, curve_of};
 ghost use Rattle.jacobian_pick.specs.declared.choosing.PickStop.TheVariants.{Memory};
 ghost use Rattle.lift_colon.specs.Lifted.{IsLifted};
-ghost use Rattle.module_basis.specs.Gens.{term_lists};
+ghost use Rattle.polys.specs.Poly.{terms_of};
 ghost use Rattle.polys.specs.Curve.{Fit, HasDimModulo, IsOver, data_of};
 ghost use Rattle.polys.specs.declared.term.Term.{Term};
 
@@ -108,7 +108,7 @@ fn tried(
     ensures good { IfOk result (λ l. IsGood (problem_data problem.now) cap d.now.terms) }
     ensures reason { IfErr result (λ stop. IsReason (problem_data problem.now) cap d.now.terms stop) }
 {
-    let _p = problem.prime.get();
+    let _prime = problem.prime.get();
     let generators = problem.generators.as_slice();
     let lifted = match Lifted::over_basis(
         alloc,
@@ -148,8 +148,8 @@ fn first_good(
     requires not_deep { HasDeepIdeal (problem_data problem.now) cap → ⊥ }
     requires some_cap { 1 ≤ cap }
     requires cap { cap ≤ 1000 }
-    ensures found { IfOk result (λ found. IfSome found (λ l. IsFound (problem_data problem.now) cap (term_lists list.now) l)) }
-    ensures none { IfOk result (λ found. IsNone found → All (λ d. IsGood (problem_data problem.now) cap d → ⊥) (term_lists list.now)) }
+    ensures found { IfOk result (λ found. IfSome found (λ l. IsFound (problem_data problem.now) cap (terms_of list.now) l)) }
+    ensures none { IfOk result (λ found. IsNone found → All (λ d. IsGood (problem_data problem.now) cap d → ⊥) (terms_of list.now)) }
 {
     for d in list {
         match tried(alloc, problem, basis, d, cap) {
@@ -204,7 +204,7 @@ fn by_hand(
     ensures found { IfOk result (λ l. IsPicked (problem_data problem.now) cap l) }
     ensures cause { IfErr result (λ stop. IsCause (problem_data problem.now) cap stop) }
 {
-    let _p = problem.prime.get();
+    let _prime = problem.prime.get();
     let monic = d.monic()?;
     tried(alloc, problem, basis, &monic, cap)
 }
@@ -216,7 +216,7 @@ fn by_hand(
 /// # Errors
 /// In this order, each exactly where it says and none before it comes: `Deep` where the homogenised generators are deep
 /// under the cap; `Unit` where 1 is in the ideal; for a denominator that is handed in `DenominatorDeep`, `ZeroDivisor`,
-/// `Infinite`, `Wide`; `NoDenominator` where none is handed in and no candidate is good. `Memory` for want of memory.
+/// `Infinite`, `Wide`; `NoDenominator` where none is handed in and no candidate is good. `Memory` when out of memory.
 pub fn pick(alloc: Global, problem: &Problem, cap: u32) -> Result<Lifted, PickStop>
     requires ready { IsReady problem.now }
     requires some_cap { 1 ≤ cap }
@@ -228,7 +228,7 @@ pub fn pick(alloc: Global, problem: &Problem, cap: u32) -> Result<Lifted, PickSt
     // the dimension modulo the ideal and the denominator, by the bases and by the generators
     ensures dimension { IfOk result (λ l. (N : ℕ) → HasDimModulo (data_of (curve_of_lifted l)) N ↔ HasDimModulo (curve_of (problem_data problem.now) l.denominator.terms) N) }
     ensures cause { IfErr result (λ stop. IsCause (problem_data problem.now) cap stop) }
-    // each cause but want of memory is answered, unless memory runs out
+    // each cause but out of memory is answered, unless memory runs out
     ensures exact { (stop : PickStop) → stop ≢ Memory → IsCause (problem_data problem.now) cap stop → (result ≡ Err stop) ⊎ (result ≡ Err Memory) }
     // a proper ideal with a chosen denominator has it answered, unless memory runs out
     ensures complete { HasProperIdeal (problem_data problem.now) cap → (d : List Term) → IsChosen (problem_data problem.now) cap d → MatchResult result (λ l. l.denominator.terms ≡ d) (λ stop. stop ≡ Memory) }

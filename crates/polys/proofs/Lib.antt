@@ -24,12 +24,16 @@ pub mod Instance
 pub mod Leads
 -- lists of polynomials as lists of members of that ring
 pub mod Members
+-- the p-th power of a polynomial, and powers of powers
+pub mod Frobenius
 -- terms at a place of a list, and merges
 pub mod Merge
 -- multiples by numbers and by terms
 pub mod Multiples
 -- cut lists, and products term by term
 pub mod Products
+-- exponents k times as great
+pub mod Raised
 -- the laws as they are stated
 pub mod Stated
 -- the laws of sums and products
@@ -40,3 +44,4 @@ pub mod Unique
 pub mod Units
 -- two lists of terms with the same weights have one normal form
 pub mod Weights
+mod Tops

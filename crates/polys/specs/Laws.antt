@@ -1,10 +1,10 @@
 -- Laws of polynomials modulo p, as lists of terms.
-use Rattle.std.specs.Prelude.{◌≡◌, ◌↔◌, ◌⊎◌, ℕ, ◌+◌, ◌*◌, ◌%◌, ◌<◌, ◌≤◌, List, [], ◌∷◌, max, if◌then◌else◌, Some, All, Contains}
+use Rattle.std.specs.Prelude.{◌≡◌, ◌↔◌, ◌⊎◌, ℕ, ◌+◌, ◌*◌, ◌%◌, ◌<◌, ◌≤◌, List, [], ◌∷◌, length, max, slice_index, if◌then◌else◌, Some, All, Contains}
 use Rattle.std.specs.Ordering.{eq_by_cmp}
-use Rattle.monomials.specs.Mono.{Monomial, times, cmp_dp}
+use Rattle.monomials.specs.Mono.{Monomial, times, variable, cmp_dp}
 use Rattle.prime_field.specs.Primes.{IsPrime}
 use Rattle.polys.specs.declared.term.Term.{Term}
-use Rattle.polys.specs.Terms.{coefficient, IsCanonical, IsPoly, normal, add, sub, multiple, mul, one, power, lead, degree_of}
+use Rattle.polys.specs.Terms.{coefficient, IsCanonical, IsPoly, normal, add, sub, multiple, mul, one, power, derivative, lead, degree_of}
 use Rattle.polys.specs.Ideal.{InIdeal}
 use Rattle.polys.specs.Reduced.{Reduced}
 
@@ -20,12 +20,14 @@ abbrev pub pairs_at : List Term → List Term → Monomial → ℕ
 pairs_at [] g m = 0
 pairs_at (t ∷ f) g m = row_at t g m + pairs_at f g m
 
--- the coefficients of sums and products are the sums that they should be, and a polynomial is given by its coefficients
+-- the coefficients of sums, products and derivatives are what they should be, and a polynomial is given by its coefficients
 pub record CoefficientLaws : Type 0 where
   pub normal : (p : ℕ) (f : List Term) (m : Monomial) → coefficient (normal p f) m ≡ coefficient f m % p
   pub sum : (p : ℕ) (f g : List Term) (m : Monomial) → coefficient (add p f g) m ≡ (coefficient f m + coefficient g m) % p
   pub multiple : (p c : ℕ) (f : List Term) (m : Monomial) → coefficient (multiple p c f) m ≡ (c * coefficient f m) % p
   pub product : (p : ℕ) (f g : List Term) (m : Monomial) → coefficient (mul p f g) m ≡ pairs_at f g m % p
+  pub derivative : (p n v : ℕ) (f : List Term) (m : Monomial) → v < 7 → IsPoly p n f → length m.exponents ≡ 7
+      → coefficient (derivative p v f) m ≡ ((slice_index m.exponents v + 1) * coefficient f (times m (variable v))) % p
   pub same : (p : ℕ) (f g : List Term) → IsCanonical p f → IsCanonical p g → ((m : Monomial) → coefficient f m ≡ coefficient g m) → f ≡ g
 
 -- ---- sums and products

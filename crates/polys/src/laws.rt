@@ -1,8 +1,9 @@
 // The laws of polynomials, each the contract of a function that does nothing.
+ghost use Rattle.polys.specs.Frobenius.{FrobeniusLaw};
 ghost use Rattle.polys.specs.Laws.{CoefficientLaws, RingLaws, LeadLaws, DegreeLaws, IdealLaws, ReducedIsUnique};
 ghost use Rattle.polys.specs.Ring.{PolynomialsAreARing, PolynomialsAreClosed};
 
-/// The coefficients of a sum and of a product are the sums that they should be, and determine the polynomial.
+/// The coefficients of sums, products and derivatives are what they should be, and determine the polynomial.
 pub fn coefficients_add_and_multiply()
     ensures { CoefficientLaws }
 {}
@@ -33,4 +34,9 @@ pub fn ideals_are_closed()
 /// An ideal has at most one reduced basis (Greuel and Pfister, section on standard bases).
 pub fn reduced_bases_are_unique()
     ensures { ReducedIsUnique }
+{}
+
+/// Modulo a prime p up to 47 the p-th power of a polynomial replaces each variable by its p-th power.
+pub fn powers_by_the_characteristic()
+    ensures { FrobeniusLaw }
 {}

@@ -1,10 +1,10 @@
 // Polynomials, and vectors of two of them, as falling lists of terms.
-ghost use Rattle.std.specs.Prelude.{◌≡◌, ◌≢◌, ◌+◌, ◌*◌, ◌<◌, ◌≤◌, ◌↔◌, [], ◌∷◌, IsTrue, IfOk};
+ghost use Rattle.std.specs.Prelude.{◌≡◌, ◌≢◌, ◌+◌, ◌*◌, ◌<◌, ◌≤◌, ◌↔◌, [], ◌∷◌, IsTrue, IfOk, IfSome, IsNone, length};
 ghost use Rattle.monomials.specs.Mono.{total_degree};
 ghost use Rattle.polys.specs.Terms.{normal, lead, degree_of, EachMono, IsMonicOf};
 ghost use Rattle.polys.specs.Poly.{IsVector, IsPlain, sum_of, difference_of, product_of, term_multiple_of, power_of, derivative_of};
 
-use crate::{Term, terms};
+use crate::{Term, terms, top};
 use lists::NoMemory;
 use prime_field::Prime;
 use std::alloc::Global;
@@ -66,7 +66,7 @@ impl Poly {
     {
         let mut terms = Vec::new(alloc);
         if t.coeff != 0 {
-            terms.push(t).map_err(|_| NoMemory)?;
+            terms.push(t)?;
         }
         Ok(Poly { prime: p, terms })
     }
@@ -119,7 +119,7 @@ impl Poly {
         ensures { IfOk result (λ f. f ≡ self.now) }
     {
         let alloc = *self.terms.allocator();
-        let terms = self.terms.as_slice().to_vec(alloc).map_err(|_| NoMemory)?;
+        let terms = self.terms.as_slice().to_vec(alloc)?;
         Ok(Poly {
             prime: self.prime,
             terms,
@@ -132,7 +132,7 @@ impl Poly {
         ensures { IfOk result (λ f. f ≡ sum_of self.now other.now) }
     {
         let alloc = *self.terms.allocator();
-        let terms = terms::sum(alloc, self.prime, &self.terms, &other.terms).map_err(|_| NoMemory)?;
+        let terms = terms::sum(alloc, self.prime, &self.terms, &other.terms)?;
         Ok(Poly {
             prime: self.prime,
             terms,
@@ -146,8 +146,8 @@ impl Poly {
     {
         let alloc = *self.terms.allocator();
         let p = self.prime;
-        let negative = terms::multiple(alloc, p, p.get() - 1, &other.terms).map_err(|_| NoMemory)?;
-        let terms = terms::sum(alloc, p, &self.terms, &negative).map_err(|_| NoMemory)?;
+        let negative = terms::multiple(alloc, p, p.get() - 1, &other.terms)?;
+        let terms = terms::sum(alloc, p, &self.terms, &negative)?;
         Ok(Poly { prime: p, terms })
     }
 
@@ -163,9 +163,7 @@ impl Poly {
         ensures { IfOk result (λ f. f ≡ product_of self.now other.now) }
     {
         let alloc = *self.terms.allocator();
-        let terms = terms::product(alloc, self.prime, &self.terms, &other.terms).map_err(
-            |_| NoMemory,
-        )?;
+        let terms = terms::product(alloc, self.prime, &self.terms, &other.terms)?;
         Ok(Poly {
             prime: self.prime,
             terms,
@@ -184,7 +182,7 @@ impl Poly {
         if t.coeff == 0 {
             return Ok(Poly::zero(alloc, self.prime));
         }
-        let terms = terms::term_multiple(alloc, self.prime, &self.terms, t).map_err(|_| NoMemory)?;
+        let terms = terms::term_multiple(alloc, self.prime, &self.terms, t)?;
         Ok(Poly {
             prime: self.prime,
             terms,
@@ -201,11 +199,29 @@ impl Poly {
         ensures { IfOk result (λ f. f ≡ power_of self.now n) }
     {
         let alloc = *self.terms.allocator();
-        let terms = terms::power(alloc, self.prime, &self.terms, n).map_err(|_| NoMemory)?;
+        let terms = terms::power(alloc, self.prime, &self.terms, n)?;
         Ok(Poly {
             prime: self.prime,
             terms,
         })
+    }
+
+    /// The power, or `None` exactly where it has more terms than the limit. All monomials of `self` have component 0.
+    ///
+    /// A power with more terms is found out by its first terms, with no more than a few times as many terms as the limit
+    /// at a time, unless terms cancel out: then more and more of them are made, at last the whole power.
+    pub fn power_within(&self, n: u32, limit: usize) -> Result<Option<Poly>, NoMemory>
+        requires plain { EachMono IsPlain self.now.terms }
+        requires room { degree_of self.now.terms * n ≤ 60000 }
+        ensures few { IfOk result (λ r. IfSome r (λ f. (f ≡ power_of self.now n) × (length f.terms ≤ limit))) }
+        ensures many { IfOk result (λ r. IsNone r → limit < length (power_of self.now n).terms) }
+    {
+        let alloc = *self.terms.allocator();
+        let p = self.prime;
+        match top::power_within(alloc, p, &self.terms, n, limit)? {
+            None => Ok(None),
+            Some(terms) => Ok(Some(Poly { prime: p, terms })),
+        }
     }
 
     /// The partial derivative by the variable number `v`, counted from 0.
@@ -214,7 +230,7 @@ impl Poly {
         ensures { IfOk result (λ f. f ≡ derivative_of self.now v) }
     {
         let alloc = *self.terms.allocator();
-        let terms = terms::derivative(alloc, self.prime, v, &self.terms).map_err(|_| NoMemory)?;
+        let terms = terms::derivative(alloc, self.prime, v, &self.terms)?;
         Ok(Poly {
             prime: self.prime,
             terms,
@@ -227,7 +243,7 @@ impl Poly {
         ensures monic { IfOk result (λ f. IsMonicOf self.now.prime self.now.terms f.terms) }
     {
         let alloc = *self.terms.allocator();
-        let terms = terms::monic(alloc, self.prime, &self.terms).map_err(|_| NoMemory)?;
+        let terms = terms::monic(alloc, self.prime, &self.terms)?;
         Ok(Poly {
             prime: self.prime,
             terms,

@@ -203,3 +203,35 @@ fn same_data(rt: HostRuntime) -> Result<(), Fail> {
     assert!(rt; curve.same(&curve) && !curve.same(&other));
     Ok(())
 }
+
+// How many terms the power has, or nothing where it has more than the limit.
+fn terms_within(f: &Poly, n: u32, limit: usize) -> Result<Option<usize>, Fail> {
+    match f.degree().checked_mul(n) {
+        Some(degree) if degree <= 60000 && f.is_plain() => match f.power_within(n, limit)? {
+            None => Ok(None),
+            Some(power) => Ok(Some(power.terms().len())),
+        },
+        _ => Err("the degree is too high".into()),
+    }
+}
+
+#[test]
+fn powers_within_limits(rt: HostRuntime) -> Result<(), Fail> {
+    let p = Prime::new(7).ok_or("7 is in the table")?;
+    let f = polynomial(rt.alloc(), p, [(1, 1, 0), (1, 0, 1), (1, 0, 0)].as_slice())?;
+    // (x + y + 1)^7 has 3 terms modulo 7, the 6th power all 28, and the 60th power, of the digits 1, 1 and 4, 3 * 3 * 15.
+    let table = [
+        (7, 3, Some(3)),
+        (7, 2, None),
+        (6, 28, Some(28)),
+        (6, 27, None),
+        (60, 135, Some(135)),
+        (60, 134, None),
+        (0, 1, Some(1)),
+        (0, 0, None),
+    ];
+    for (i, (n, limit, want)) in table.iter().enumerate() {
+        assert!(rt; terms_within(&f, *n, *limit)? == *want, "row {i}");
+    }
+    Ok(())
+}
