@@ -3,3 +3,5 @@ mod CuspDimension
 mod CuspRings
 mod CuspOrders
 mod CuspPower
+mod CuspNumerators
+mod CuspClosure
