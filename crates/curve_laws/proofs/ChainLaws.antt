@@ -20,7 +20,8 @@ use Rattle.curve_model.specs.Laws.{IsFinite, ArePolys}
 use Rattle.curve_model.specs.Rings.{IsFractionRing, KeepsRadical}
 use Rattle.curve_model.specs.Enlarging.{IsLocalRing}
 use Rattle.curve_model.specs.Closing.{ChainStarts, ChainGoesOn}
-use Rattle.curve_laws.proofs.Members.{lift, terms-lift, ideal_to}
+use Rattle.curve_laws.proofs.Members.{ideal_to}
+use Rattle.polys.proofs.Members.{lift, terms-lift}
 use Rattle.curve_laws.proofs.Facts.{contains_member}
 use Rattle.curve_laws.proofs.Chains.{flip, over_none}
 use Rattle.curve_laws.proofs.Base.{high, Ring, d, Q, Curve, member, equal_down}

@@ -11,7 +11,7 @@ use Rattle.comm_ring.specs.Modules.{IsSubmodule, combine, combination, InSpan, I
 use Rattle.comm_ring.specs.Ideals as Ideals
 use Rattle.comm_ring.proofs.Residues.{residues}
 use Rattle.comm_ring.proofs.Fields.{residue_field, residue_coefficients}
-use Rattle.prime_field.proofs.Table.{positive_of_prime}
+use Rattle.prime_field.proofs.Table.{positive_of_prime, above_one}
 use Rattle.comm_ring.proofs.Ideals as IdealLaws
 use Rattle.comm_ring.proofs.Modules.{Module, through}
 use Rattle.comm_ring.proofs.Quotients.{quotient}
@@ -22,15 +22,16 @@ use Rattle.polys.specs.Terms.{IsPoly, keep, add, sub, mul}
 use Rattle.polys.specs.Ideal.{InIdeal, number_combination, Spans, HasDim}
 use Rattle.polys.specs.Curve.{CurveData}
 use Rattle.polys.specs.Ring.{Member}
+use Rattle.polys.proofs.Constants.{constant_sum, constant_product}
 use Rattle.polys.proofs.Affine.{constant, poly_constant, mul_constant, sevens_of, positive}
 use Rattle.monomials.specs.Mono.{unit}
 use Rattle.curve_model.specs.Fraction.{denominator_power}
 use Rattle.curve_model.specs.Laws.{IsFinite}
 use Rattle.curve_model.specs.Quotient.{CoordinatesAreUnique, MembershipIsDecided, BasesCountDimension, PowersHaveDimension}
-use Rattle.curve_laws.proofs.Members.{R, terms_of, lift, terms-lift, polys_of, ideal_from, ideal_to}
+use Rattle.curve_laws.proofs.Members.{R, ideal_from, ideal_to}
+use Rattle.polys.proofs.Members.{terms_of, lift, terms-lift, polys_of, length-lift}
 use Rattle.curve_laws.proofs.Base as Base
-use Rattle.curve_laws.proofs.Base.{above_one}
-use Rattle.curve_laws.proofs.Locals.{length-lift, taken_up, taken_down}
+use Rattle.curve_laws.proofs.Locals.{taken_up, taken_down}
 use Rattle.curve_laws.proofs.Chains.{from_zero, of_zero}
 use Rattle.curve_laws.proofs.Scalars as Scalars
 
@@ -54,8 +55,8 @@ module _ (p n : ℕ) (prime : IsPrime p) where
   scalar_map = record {
     resp = λ x y e. ap (λ r. keep r unit []) e;
     one = ap (λ r. keep r unit []) (mod-eq_of_lt high);
-    add = Scalars.constant_sum p (positive p high);
-    mul = Scalars.constant_product p (positive p high);
+    add = constant_sum p (positive p high);
+    mul = constant_product p (positive p high);
   }
 
   combination-numbers : (cs : List ℕ) (us : List Poly) → (combination (module_through Ring.ops scalar) cs us).terms ≡ number_combination p cs (terms_of us)

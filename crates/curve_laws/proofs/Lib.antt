@@ -24,6 +24,3 @@ pub mod StepLaws
 pub mod FewerLaws
 pub mod GeneratorLaws
 pub mod PointSetLaws
--- for the examples alone
-mod CuspDimension
-mod CuspRings

@@ -5,5 +5,4 @@
 //! `point_laws` apply.
 #![tactic(auto)]
 
-pub mod examples;
 pub mod laws;

@@ -1,11 +1,12 @@
 -- The origin is a point of the cusp, of degree 1.
-use Rattle.std.proofs.Common.{◌≡◌, ◌⊎◌, inl, inr, ℕ, ◌+◌, ◌*◌, ◌%◌, ◌<◌, ◌≤◌, zero, suc, List, [], ◌∷◌, ◌++◌, length, replicate, get_or, refl, sym, ap, ◌∙◌, subst, arith}
+use Rattle.std.proofs.Common.{◌≡◌, ◌⊎◌, inl, inr, ℕ, ◌+◌, ◌*◌, ◌%◌, ◌<◌, ◌≤◌, zero, suc, List, [], ◌∷◌, ◌++◌, length, get_or, refl, sym, ap, ◌∙◌, subst, arith}
 use Rattle.std.specs.List.{All, AllPairs, Contains}
 use Rattle.std.proofs.lemmas.List.Elements.{All-nil, All-cons}
 use Rattle.std.specs.declared.cmp.Ordering.TheVariants.{Less, Greater}
 use native.Mathlib.Nat.{mod-lt, mod-eq_of_lt, mul-add-mod_self_left}
 use Rattle.std.proofs.lemmas.Nat.{mul-mod_first, mul-mod_second}
 use Rattle.monomials.specs.Mono.{Monomial, Divides, times, unit, cmp_dp}
+use Rattle.monomials.proofs.Exponents.{zeros_at}
 use Rattle.monomials.proofs.Order.{multiple_not_less, times_comm, times_one, turn_down}
 use Rattle.prime_field.specs.Primes.{IsPrime}
 use Rattle.prime_field.proofs.Table.{characteristics-are_prime}
@@ -91,11 +92,6 @@ minimal_y = (lead_y, λ w l d. go (lead_exponents w l) d)
         e ∙ (λ k. mono_of (i0 k) (j1 k))
 
 -- ---- the reduced basis
-
-zeros_at : (n k : ℕ) → get_or (replicate {A = ℕ} n 0) k 0 ≡ 0
-zeros_at zero k = refl
-zeros_at (suc n) zero = refl
-zeros_at (suc n) (suc k) = zeros_at n k
 
 x_divides : (i j : ℕ) → Divides (mono_of 1 0) (mono_of (suc i) j)
 x_divides i j = record { same = refl; none_greater = go }

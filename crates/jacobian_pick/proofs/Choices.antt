@@ -8,13 +8,12 @@ use Rattle.prime_field.specs.Primes.{IsPrime}
 use Rattle.polys.specs.declared.term.Term.{Term}
 use Rattle.polys.specs.Curve.{IsOver, Fit, HasRegular, HasDimModulo, data_of}
 use Rattle.polys.specs.Ideal.{InIdeal, Regular, HasDim, HasInfiniteDim, Spans}
-use Rattle.polys.specs.Poly.{Polynomial}
+use Rattle.polys.specs.Poly.{Polynomial, terms_of}
 use Rattle.polys.specs.Reduced.{IsReducedBasis}
 use Rattle.polys.specs.Terms.{IsCanonical, IsPoly, IsMonicOf, mul, degree_of, one}
 use Rattle.polys.proofs.Affine.{affine_unit}
 use Rattle.polys.proofs.Ideals.{in_head, in_more, in_generator, in_larger, in_poly}
 use Rattle.denominator_module.proofs.Firsts.{all_from}
-use Rattle.module_basis.specs.Gens.{term_lists}
 use Rattle.denominator_module.specs.Module.{IsDeepDenominator}
 use Rattle.lift_colon.specs.Lifted.{LiftedData, IsLifted}
 use Rattle.problem.specs.declared.problem.Problem.{Problem}
@@ -48,41 +47,41 @@ larger p n d xs ys two h a k f r =
     in_larger p n (d ∷ xs) (d ∷ ys) f (omega arith)
     (All-cons (InIdeal p n (d ∷ ys)) d xs (in_head p n d ys two h) (all_from (InIdeal p n (d ∷ ys)) xs (λ g c. in_more p n d ys g (k g (in_generator p n xs g two a c))))) r
 
-pub polys_of : (p n D : ℕ) (fs : List Polynomial) → All (IsUpTo p n D) fs → All (IsPoly p n) (term_lists fs)
+pub polys_of : (p n D : ℕ) (fs : List Polynomial) → All (IsUpTo p n D) fs → All (IsPoly p n) (terms_of fs)
 polys_of p n D [] a = All-nil (IsPoly p n)
-polys_of p n D (f ∷ fs) a = All-cons (IsPoly p n) f.terms (term_lists fs) (All-head (IsUpTo p n D) f fs a).over.poly (polys_of p n D fs (All-tail (IsUpTo p n D) f fs a))
+polys_of p n D (f ∷ fs) a = All-cons (IsPoly p n) f.terms (terms_of fs) (All-head (IsUpTo p n D) f fs a).over.poly (polys_of p n D fs (All-tail (IsUpTo p n D) f fs a))
 
 -- ---- a denominator that was tried
 
 module _ (problem : Problem) (cap : ℕ) (d : Polynomial) (v : ℕ) (gens : List Polynomial) (ev : v ≡ length problem.letters) (eg : gens ≡ problem.generators) where
-  pub deep_module : IsDeepDenominator problem.prime v d.terms (term_lists gens) cap → HasDeepModule (problem_data problem) cap d.terms
+  pub deep_module : IsDeepDenominator problem.prime v d.terms (terms_of gens) cap → HasDeepModule (problem_data problem) cap d.terms
   deep_module x =
-      subst (λ (m : ℕ). IsDeepDenominator problem.prime m d.terms (term_lists problem.generators) cap) ev (subst (λ w. IsDeepDenominator problem.prime v d.terms (term_lists w) cap) eg x)
+      subst (λ (m : ℕ). IsDeepDenominator problem.prime m d.terms (terms_of problem.generators) cap) ev (subst (λ w. IsDeepDenominator problem.prime v d.terms (terms_of w) cap) eg x)
 
-  pub no_deep_module : (IsDeepDenominator problem.prime v d.terms (term_lists gens) cap → ⊥) → HasDeepModule (problem_data problem) cap d.terms → ⊥
+  pub no_deep_module : (IsDeepDenominator problem.prime v d.terms (terms_of gens) cap → ⊥) → HasDeepModule (problem_data problem) cap d.terms → ⊥
   no_deep_module h x =
-      h (subst (λ w. IsDeepDenominator problem.prime v d.terms (term_lists w) cap) (sym eg) (subst (λ (m : ℕ). IsDeepDenominator problem.prime m d.terms (term_lists problem.generators) cap) (sym ev) x))
+      h (subst (λ w. IsDeepDenominator problem.prime v d.terms (terms_of w) cap) (sym eg) (subst (λ (m : ℕ). IsDeepDenominator problem.prime m d.terms (terms_of problem.generators) cap) (sym ev) x))
 
 -- a copy of the basis is the basis
 pub basis_as : (problem : Problem) (basis ideal : List Polynomial) → IsBasisOf problem basis → ideal ≡ basis
-    → IsReducedBasis problem.prime (length problem.letters) (InIdeal problem.prime (length problem.letters) (term_lists problem.generators)) (term_lists ideal)
+    → IsReducedBasis problem.prime (length problem.letters) (InIdeal problem.prime (length problem.letters) (terms_of problem.generators)) (terms_of ideal)
 basis_as problem basis ideal known e =
-    subst (λ w. IsReducedBasis problem.prime (length problem.letters) (InIdeal problem.prime (length problem.letters) (term_lists problem.generators)) (term_lists w)) (sym e) known.reduced
+    subst (λ w. IsReducedBasis problem.prime (length problem.letters) (InIdeal problem.prime (length problem.letters) (terms_of problem.generators)) (terms_of w)) (sym e) known.reduced
 
 module _ (problem : Problem) (prime : IsPrime problem.prime) (ready : IsReady problem) (d : Polynomial) (l : LiftedData) (od : IsOver problem.prime (length problem.letters) d)
     (ep : l.prime ≡ problem.prime) (en : l.variables ≡ length problem.letters) (ed : l.denominator ≡ d)
-    (basis : IsReducedBasis problem.prime (length problem.letters) (InIdeal problem.prime (length problem.letters) (term_lists problem.generators)) (term_lists l.ideal)) where
+    (basis : IsReducedBasis problem.prime (length problem.letters) (InIdeal problem.prime (length problem.letters) (terms_of problem.generators)) (terms_of l.ideal)) where
   two : 1 < problem.prime
   two = let h = prime.0 in omega arith
 
-  polys : All (IsPoly problem.prime (length problem.letters)) (term_lists problem.generators)
+  polys : All (IsPoly problem.prime (length problem.letters)) (terms_of problem.generators)
   polys = polys_of problem.prime (length problem.letters) 60 problem.generators (fits_up_to problem.prime (length problem.letters) problem.generators ready.generators)
 
-  into : (f : List Term) → InIdeal problem.prime (length problem.letters) (term_lists problem.generators) f → InIdeal problem.prime (length problem.letters) (term_lists l.ideal) f
-  into f r = (basis.exact f (in_poly problem.prime (length problem.letters) (term_lists problem.generators) f (let t = two in omega arith) polys r)).1 r
+  into : (f : List Term) → InIdeal problem.prime (length problem.letters) (terms_of problem.generators) f → InIdeal problem.prime (length problem.letters) (terms_of l.ideal) f
+  into f r = (basis.exact f (in_poly problem.prime (length problem.letters) (terms_of problem.generators) f (let t = two in omega arith) polys r)).1 r
 
-  from : (f : List Term) → InIdeal problem.prime (length problem.letters) (term_lists l.ideal) f → InIdeal problem.prime (length problem.letters) (term_lists problem.generators) f
-  from f r = (basis.exact f (in_poly problem.prime (length problem.letters) (term_lists l.ideal) f (let t = two in omega arith) basis.reduced.polys r)).0 r
+  from : (f : List Term) → InIdeal problem.prime (length problem.letters) (terms_of l.ideal) f → InIdeal problem.prime (length problem.letters) (terms_of problem.generators) f
+  from f r = (basis.exact f (in_poly problem.prime (length problem.letters) (terms_of l.ideal) f (let t = two in omega arith) basis.reduced.polys r)).0 r
 
   at : (F : ℕ → ℕ → Polynomial → Type 0) → F l.prime l.variables l.denominator → F problem.prime (length problem.letters) d
   at F x = subst (F problem.prime (length problem.letters)) ed (subst (λ (m : ℕ). F problem.prime m l.denominator) en (subst (λ (q : ℕ). F q l.variables l.denominator) ep x))
@@ -90,34 +89,34 @@ module _ (problem : Problem) (prime : IsPrime problem.prime) (ready : IsReady pr
   back : (F : ℕ → ℕ → Polynomial → Type 0) → F problem.prime (length problem.letters) d → F l.prime l.variables l.denominator
   back F x = subst (λ (q : ℕ). F q l.variables l.denominator) (sym ep) (subst (λ (m : ℕ). F problem.prime m l.denominator) (sym en) (subst (F problem.prime (length problem.letters)) (sym ed) x))
 
-  pub regular : Regular l.prime l.variables (term_lists l.ideal) l.denominator.terms ↔ HasRegular (curve_of (problem_data problem) d.terms)
+  pub regular : Regular l.prime l.variables (terms_of l.ideal) l.denominator.terms ↔ HasRegular (curve_of (problem_data problem) d.terms)
   regular = (
-    λ r. (λ a h m. from a (at (λ q n g. Regular q n (term_lists l.ideal) g.terms) r a h (into (mul problem.prime d.terms a) m))),
-    λ r. back (λ q n g. Regular q n (term_lists l.ideal) g.terms) (λ a h m. into a (r a h (from (mul problem.prime d.terms a) m))),
+    λ r. (λ a h m. from a (at (λ q n g. Regular q n (terms_of l.ideal) g.terms) r a h (into (mul problem.prime d.terms a) m))),
+    λ r. back (λ q n g. Regular q n (terms_of l.ideal) g.terms) (λ a h m. into a (r a h (from (mul problem.prime d.terms a) m))),
   )
 
-  pub dimension : (N : ℕ) → HasDim l.prime l.variables (l.denominator.terms ∷ term_lists l.ideal) N → HasDimModulo (curve_of (problem_data problem) d.terms) N
+  pub dimension : (N : ℕ) → HasDim l.prime l.variables (l.denominator.terms ∷ terms_of l.ideal) N → HasDimModulo (curve_of (problem_data problem) d.terms) N
   dimension N h =
-      dim_same problem.prime (length problem.letters) N (d.terms ∷ term_lists l.ideal) (d.terms ∷ term_lists problem.generators)
-      (larger problem.prime (length problem.letters) d.terms (term_lists l.ideal) (term_lists problem.generators) two od.poly basis.reduced.polys from)
-      (larger problem.prime (length problem.letters) d.terms (term_lists problem.generators) (term_lists l.ideal) two od.poly polys into)
-      (at (λ q n g. HasDim q n (g.terms ∷ term_lists l.ideal) N) h)
+      dim_same problem.prime (length problem.letters) N (d.terms ∷ terms_of l.ideal) (d.terms ∷ terms_of problem.generators)
+      (larger problem.prime (length problem.letters) d.terms (terms_of l.ideal) (terms_of problem.generators) two od.poly basis.reduced.polys from)
+      (larger problem.prime (length problem.letters) d.terms (terms_of problem.generators) (terms_of l.ideal) two od.poly polys into)
+      (at (λ q n g. HasDim q n (g.terms ∷ terms_of l.ideal) N) h)
 
-  pub dimension_back : (N : ℕ) → HasDimModulo (curve_of (problem_data problem) d.terms) N → HasDim l.prime l.variables (l.denominator.terms ∷ term_lists l.ideal) N
+  pub dimension_back : (N : ℕ) → HasDimModulo (curve_of (problem_data problem) d.terms) N → HasDim l.prime l.variables (l.denominator.terms ∷ terms_of l.ideal) N
   dimension_back N h =
-      back (λ q n g. HasDim q n (g.terms ∷ term_lists l.ideal) N)
-      (dim_same problem.prime (length problem.letters) N (d.terms ∷ term_lists problem.generators) (d.terms ∷ term_lists l.ideal)
-      (larger problem.prime (length problem.letters) d.terms (term_lists problem.generators) (term_lists l.ideal) two od.poly polys into)
-      (larger problem.prime (length problem.letters) d.terms (term_lists l.ideal) (term_lists problem.generators) two od.poly basis.reduced.polys from) h)
+      back (λ q n g. HasDim q n (g.terms ∷ terms_of l.ideal) N)
+      (dim_same problem.prime (length problem.letters) N (d.terms ∷ terms_of problem.generators) (d.terms ∷ terms_of l.ideal)
+      (larger problem.prime (length problem.letters) d.terms (terms_of problem.generators) (terms_of l.ideal) two od.poly polys into)
+      (larger problem.prime (length problem.letters) d.terms (terms_of l.ideal) (terms_of problem.generators) two od.poly basis.reduced.polys from) h)
 
-  pub one_back : InIdeal l.prime l.variables (term_lists l.ideal) one → InIdeal problem.prime (length problem.letters) (term_lists problem.generators) one
-  one_back r = from one (at (λ q n g. InIdeal q n (term_lists l.ideal) one) r)
+  pub one_back : InIdeal l.prime l.variables (terms_of l.ideal) one → InIdeal problem.prime (length problem.letters) (terms_of problem.generators) one
+  one_back r = from one (at (λ q n g. InIdeal q n (terms_of l.ideal) one) r)
 
-  pub infinite : HasInfiniteDim l.prime l.variables (l.denominator.terms ∷ term_lists l.ideal) → IsInfinite (problem_data problem) d.terms
+  pub infinite : HasInfiniteDim l.prime l.variables (l.denominator.terms ∷ terms_of l.ideal) → IsInfinite (problem_data problem) d.terms
   infinite h us s =
-      at (λ q n g. HasInfiniteDim q n (g.terms ∷ term_lists l.ideal)) h us
-      (spans_same problem.prime (length problem.letters) (d.terms ∷ term_lists problem.generators) (d.terms ∷ term_lists l.ideal) us
-      (larger problem.prime (length problem.letters) d.terms (term_lists problem.generators) (term_lists l.ideal) two od.poly polys into) s)
+      at (λ q n g. HasInfiniteDim q n (g.terms ∷ terms_of l.ideal)) h us
+      (spans_same problem.prime (length problem.letters) (d.terms ∷ terms_of problem.generators) (d.terms ∷ terms_of l.ideal) us
+      (larger problem.prime (length problem.letters) d.terms (terms_of problem.generators) (terms_of l.ideal) two od.poly polys into) s)
 
 -- ---- the first good one of a list
 
@@ -142,7 +141,7 @@ pub handed_over : (problem : Problem) (d m : Polynomial) → IsPrime problem.pri
     → IsUpTo problem.prime (length problem.letters) 60 m × IsMonicOf problem.prime d.terms m.terms
 handed_over problem d m prime ready given e h =
     let u : IsUpTo problem.prime (length problem.letters) 60 d =
-        fit_up_to problem.prime (length problem.letters) d (subst (λ o. IfSome o (IsFit problem.prime (length problem.letters))) given ready.denominator) in
+    fit_up_to problem.prime (length problem.letters) d (subst (λ o. IfSome o (IsFit problem.prime (length problem.letters))) given ready.denominator) in
     let k : IsMonicOf problem.prime d.terms m.terms = subst (λ (q : ℕ). IsMonicOf q d.terms m.terms) u.over.prime h in
     let low = monic_low problem.prime (length problem.letters) 60 d.terms m.terms (let t = prime.0 in omega arith) (record { poly = u.over.poly; low = u.low }) k in
     (record { over = record { prime = e ∙ u.over.prime; poly = low.poly }; low = low.low }, k)
@@ -248,28 +247,28 @@ proper_all problem cap (Err e) p = tt
 
 -- ---- a list that is searched
 
-pub split : (list : List Polynomial) (i : ℕ) (d : Polynomial) → i < length list → d ≡ get_or list i d → term_lists list ≡ term_lists (take i list) ++ d.terms ∷ term_lists (drop (i + 1) list)
+pub split : (list : List Polynomial) (i : ℕ) (d : Polynomial) → i < length list → d ≡ get_or list i d → terms_of list ≡ terms_of (take i list) ++ d.terms ∷ terms_of (drop (i + 1) list)
 split list i d h e =
-    ap term_lists (sym (take-append-drop i list) ∙ ap (λ w. take i list ++ w) (drop_more list i d h ∙ (λ j. sym e j ∷ drop (i + 1) list)))
+    ap terms_of (sym (take-append-drop i list) ∙ ap (λ w. take i list ++ w) (drop_more list i d h ∙ (λ j. sym e j ∷ drop (i + 1) list)))
     ∙ map-append (λ f. f.terms) (take i list) (d ∷ drop (i + 1) list)
 
 pub found : (problem : Problem) (cap n : ℕ) (list : List Polynomial) (i : ℕ) (d : Polynomial) (l : LiftedData) → i < length list → d ≡ get_or list i d
-    → All (λ f. IsGood (problem_data problem) cap f → ⊥) (term_lists (take i list)) → All (IsUpTo problem.prime n 119) list → IsLiftedOf (problem_data problem) l → IsLifted l → l.denominator ≡ d
-    → IsGood (problem_data problem) cap d.terms → IsFound (problem_data problem) cap (term_lists list) l
+    → All (λ f. IsGood (problem_data problem) cap f → ⊥) (terms_of (take i list)) → All (IsUpTo problem.prime n 119) list → IsLiftedOf (problem_data problem) l → IsLifted l → l.denominator ≡ d
+    → IsGood (problem_data problem) cap d.terms → IsFound (problem_data problem) cap (terms_of list) l
 found problem cap n list i d l h e bad up lifted known ed good = record {
   lifted = lifted;
   known = known;
   low = subst (λ (f : Polynomial). degree_of f.terms ≤ 119) (sym ed) (subst (IsUpTo problem.prime n 119) (sym e) (up i d h)).low;
-  first = subst (λ (f : Polynomial). IsFirstGood (problem_data problem) cap (term_lists list) f.terms) (sym ed)
-      (record { before = term_lists (take i list); after = term_lists (drop (i + 1) list); place = split list i d h e; bad = bad; good = good });
+  first = subst (λ (f : Polynomial). IsFirstGood (problem_data problem) cap (terms_of list) f.terms) (sym ed)
+      (record { before = terms_of (take i list); after = terms_of (drop (i + 1) list); place = split list i d h e; bad = bad; good = good });
 }
 
 pub one_more_bad : (problem : Problem) (cap : ℕ) (list : List Polynomial) (i : ℕ) (d : Polynomial) → i < length list → d ≡ get_or list i d
-    → All (λ f. IsGood (problem_data problem) cap f → ⊥) (term_lists (take i list)) → (IsGood (problem_data problem) cap d.terms → ⊥)
-    → All (λ f. IsGood (problem_data problem) cap f → ⊥) (term_lists (take (i + 1) list))
+    → All (λ f. IsGood (problem_data problem) cap f → ⊥) (terms_of (take i list)) → (IsGood (problem_data problem) cap d.terms → ⊥)
+    → All (λ f. IsGood (problem_data problem) cap f → ⊥) (terms_of (take (i + 1) list))
 one_more_bad problem cap list i d h e bad worse =
     subst (All (λ f. IsGood (problem_data problem) cap f → ⊥)) (sym (next problem.prime 0 [] list i d h e))
-    (All-push (λ f. IsGood (problem_data problem) cap f → ⊥) (term_lists (take i list)) d.terms bad worse)
+    (All-push (λ f. IsGood (problem_data problem) cap f → ⊥) (terms_of (take i list)) d.terms bad worse)
 
 -- ---- 1 is not in the ideal
 
@@ -280,12 +279,12 @@ one_over p n f e c = record {
 }
 
 pub proper_by : (problem : Problem) (cap : ℕ) (f : Polynomial) (b : Bool) → (HasDeepIdeal (problem_data problem) cap → ⊥) → f ≡ record { prime = problem.prime; terms = one }
-    → IsTrue b ↔ InIdeal problem.prime (length problem.letters) (term_lists problem.generators) f.terms → b ≡ false → HasProperIdeal (problem_data problem) cap
+    → IsTrue b ↔ InIdeal problem.prime (length problem.letters) (terms_of problem.generators) f.terms → b ≡ false → HasProperIdeal (problem_data problem) cap
 proper_by problem cap f b h e m z = record {
   not_deep = h;
-  not_unit = λ r. (let t : IsTrue b = m.1 (subst (λ (g : Polynomial). InIdeal problem.prime (length problem.letters) (term_lists problem.generators) g.terms) (sym e) r) in cc);
+  not_unit = λ r. (let t : IsTrue b = m.1 (subst (λ (g : Polynomial). InIdeal problem.prime (length problem.letters) (terms_of problem.generators) g.terms) (sym e) r) in cc);
 }
 
 pub unit_by : (problem : Problem) (cap : ℕ) (f : Polynomial) (b : Bool) → (HasDeepIdeal (problem_data problem) cap → ⊥) → f ≡ record { prime = problem.prime; terms = one }
-    → IsTrue b ↔ InIdeal problem.prime (length problem.letters) (term_lists problem.generators) f.terms → IsTrue b → IsCause (problem_data problem) cap Unit
-unit_by problem cap f b h e m z = (h, subst (λ (g : Polynomial). InIdeal problem.prime (length problem.letters) (term_lists problem.generators) g.terms) e (m.0 z))
+    → IsTrue b ↔ InIdeal problem.prime (length problem.letters) (terms_of problem.generators) f.terms → IsTrue b → IsCause (problem_data problem) cap Unit
+unit_by problem cap f b h e m z = (h, subst (λ (g : Polynomial). InIdeal problem.prime (length problem.letters) (terms_of problem.generators) g.terms) e (m.0 z))

@@ -7,8 +7,7 @@ use Rattle.std.proofs.lemmas.List.Elements.{All-take, All-append, All-weaker}
 use Rattle.prime_field.specs.Primes.{IsPrime}
 use Rattle.polys.specs.declared.term.Term.{Term}
 use Rattle.polys.specs.Curve.{IsOver}
-use Rattle.polys.specs.Poly.{Polynomial}
-use Rattle.module_basis.specs.Gens.{term_lists}
+use Rattle.polys.specs.Poly.{Polynomial, terms_of}
 use Rattle.problem.specs.declared.problem.Problem.{Problem}
 use Rattle.jacobian_pick.specs.Candidates.{AreKept, AreFirst, AreSecond, AreThird, AreCandidates, jacobian, over_pairs, over_others, number_sums, variable_sums}
 use Rattle.jacobian_pick.specs.Lists.{polynomials, IsUpTo}
@@ -32,25 +31,25 @@ module _ (problem : Problem) (prime : IsPrime problem.prime) where
   over D xs raw list r e = subst (All (IsOver problem.prime (length problem.letters))) (sym e) (over_raw problem.prime (length problem.letters) D xs raw r.is r.low)
 
   pub kept_of : {E : Type 0} (D : ℕ) (xs : List (List Term)) (raw list : List Polynomial) (r : Result (List Polynomial) E) → IsRaw problem D xs raw → list ≡ raw
-      → IfOk r (λ ms. All (λ m. m.prime ≡ problem.prime) ms) → IfOk r (λ ms. AreKept problem.prime (length problem.letters) (term_lists problem.generators) (term_lists list) (term_lists ms))
-      → IfOk r (λ ms. All (IsUpTo problem.prime (length problem.letters) D) ms × AreKept problem.prime (length problem.letters) (term_lists problem.generators) xs (term_lists ms))
+      → IfOk r (λ ms. All (λ m. m.prime ≡ problem.prime) ms) → IfOk r (λ ms. AreKept problem.prime (length problem.letters) (terms_of problem.generators) (terms_of list) (terms_of ms))
+      → IfOk r (λ ms. All (IsUpTo problem.prime (length problem.letters) D) ms × AreKept problem.prime (length problem.letters) (terms_of problem.generators) xs (terms_of ms))
   kept_of D xs raw list (Ok ms) h e a k =
-      listed problem.prime (length problem.letters) D (term_lists problem.generators) xs raw ms pos h.is h.low a
-      (subst (λ w. AreKept problem.prime (length problem.letters) (term_lists problem.generators) (term_lists w) (term_lists ms)) e k)
+      listed problem.prime (length problem.letters) D (terms_of problem.generators) xs raw ms pos h.is h.low a
+      (subst (λ w. AreKept problem.prime (length problem.letters) (terms_of problem.generators) (terms_of w) (terms_of ms)) e k)
   kept_of D xs raw list (Err x) h e a k = a
 
-  pub first_raw : (v : ℕ) (gens raw : List Polynomial) → IsReady problem → v ≡ length problem.letters → gens ≡ problem.generators → raw ≡ polynomials problem.prime (jacobian problem.prime v (term_lists gens))
-      → IsRaw problem 118 (jacobian problem.prime (length problem.letters) (term_lists problem.generators)) raw
+  pub first_raw : (v : ℕ) (gens raw : List Polynomial) → IsReady problem → v ≡ length problem.letters → gens ≡ problem.generators → raw ≡ polynomials problem.prime (jacobian problem.prime v (terms_of gens))
+      → IsRaw problem 118 (jacobian problem.prime (length problem.letters) (terms_of problem.generators)) raw
   first_raw v gens raw ready e g r = record {
-    is = r ∙ (λ i. polynomials problem.prime (jacobian problem.prime (e i) (term_lists (g i))));
-    low = jacobian_low problem.prime (length problem.letters) two (term_lists problem.generators) (lows problem.prime (length problem.letters) 60 problem.generators (fits_up_to problem.prime (length problem.letters) problem.generators ready.generators));
+    is = r ∙ (λ i. polynomials problem.prime (jacobian problem.prime (e i) (terms_of (g i))));
+    low = jacobian_low problem.prime (length problem.letters) two (terms_of problem.generators) (lows problem.prime (length problem.letters) 60 problem.generators (fits_up_to problem.prime (length problem.letters) problem.generators ready.generators));
   }
 
-  six_lists : (first six : List Polynomial) → six ≡ take 6 first → term_lists six ≡ take 6 (term_lists first)
-  six_lists first six e = ap term_lists e ∙ sym (take-map (λ (f : Polynomial). f.terms) 6 first)
+  six_lists : (first six : List Polynomial) → six ≡ take 6 first → terms_of six ≡ take 6 (terms_of first)
+  six_lists first six e = ap terms_of e ∙ sym (take-map (λ (f : Polynomial). f.terms) 6 first)
 
-  six_low : (first : List Polynomial) → All (IsUpTo problem.prime (length problem.letters) 118) first → All (IsLow problem.prime (length problem.letters) 118) (take 6 (term_lists first))
-  six_low first a = All-take (IsLow problem.prime (length problem.letters) 118) 6 (term_lists first) (lows problem.prime (length problem.letters) 118 first a)
+  six_low : (first : List Polynomial) → All (IsUpTo problem.prime (length problem.letters) 118) first → All (IsLow problem.prime (length problem.letters) 118) (take 6 (terms_of first))
+  six_low first a = All-take (IsLow problem.prime (length problem.letters) 118) 6 (terms_of first) (lows problem.prime (length problem.letters) 118 first a)
 
   pub six_up_to : (v : ℕ) (first six : List Polynomial) → v ≡ length problem.letters → six ≡ take 6 first → All (IsUpTo problem.prime (length problem.letters) 118) first → All (IsUpTo problem.prime v 118) six
   six_up_to v first six h e a =
@@ -58,18 +57,18 @@ module _ (problem : Problem) (prime : IsPrime problem.prime) where
       (subst (All (IsUpTo problem.prime (length problem.letters) 118)) (sym e) (All-take (IsUpTo problem.prime (length problem.letters) 118) 6 first a))
 
   pub second_raw : (first six raw : List Polynomial) → All (IsUpTo problem.prime (length problem.letters) 118) first → six ≡ take 6 first
-      → raw ≡ polynomials problem.prime (over_pairs (number_sums problem.prime) (term_lists six)) → IsRaw problem 119 (over_pairs (number_sums problem.prime) (take 6 (term_lists first))) raw
+      → raw ≡ polynomials problem.prime (over_pairs (number_sums problem.prime) (terms_of six)) → IsRaw problem 119 (over_pairs (number_sums problem.prime) (take 6 (terms_of first))) raw
   second_raw first six raw a e r = record {
     is = r ∙ ap (λ w. polynomials problem.prime (over_pairs (number_sums problem.prime) w)) (six_lists first six e);
-    low = number_sums_low problem.prime (length problem.letters) two (take 6 (term_lists first)) (six_low first a);
+    low = number_sums_low problem.prime (length problem.letters) two (take 6 (terms_of first)) (six_low first a);
   }
 
   pub third_raw : (v : ℕ) (first six raw : List Polynomial) → v ≡ length problem.letters → All (IsUpTo problem.prime (length problem.letters) 118) first → six ≡ take 6 first
-      → raw ≡ polynomials problem.prime (over_others (variable_sums problem.prime v) [] (term_lists six))
-      → IsRaw problem 119 (over_others (variable_sums problem.prime (length problem.letters)) [] (take 6 (term_lists first))) raw
+      → raw ≡ polynomials problem.prime (over_others (variable_sums problem.prime v) [] (terms_of six))
+      → IsRaw problem 119 (over_others (variable_sums problem.prime (length problem.letters)) [] (take 6 (terms_of first))) raw
   third_raw v first six raw h a e r = record {
     is = r ∙ (λ i. polynomials problem.prime (over_others (variable_sums problem.prime (h i)) [] (six_lists first six e i)));
-    low = variable_sums_low problem.prime (length problem.letters) two (take 6 (term_lists first)) (six_low first a);
+    low = variable_sums_low problem.prime (length problem.letters) two (take 6 (terms_of first)) (six_low first a);
   }
 
 -- ---- the whole list
@@ -82,14 +81,14 @@ pub all_up_to : (p n : ℕ) (first second third : List Polynomial) → All (IsUp
 all_up_to p n first second third a b c =
     All-append (IsUpTo p n 119) (first ++ second) third (All-append (IsUpTo p n 119) first second (more_up_to p n first a) b) c
 
-pub all_candidates : (problem : Problem) (first second third : List Polynomial) → AreFirst (problem_data problem) (term_lists first) → AreSecond (problem_data problem) (term_lists first) (term_lists second)
-    → AreThird (problem_data problem) (term_lists first) (term_lists third) → AreCandidates (problem_data problem) (term_lists (first ++ second ++ third))
+pub all_candidates : (problem : Problem) (first second third : List Polynomial) → AreFirst (problem_data problem) (terms_of first) → AreSecond (problem_data problem) (terms_of first) (terms_of second)
+    → AreThird (problem_data problem) (terms_of first) (terms_of third) → AreCandidates (problem_data problem) (terms_of (first ++ second ++ third))
 all_candidates problem first second third a b c = record {
-  first = term_lists first;
-  second = term_lists second;
-  third = term_lists third;
+  first = terms_of first;
+  second = terms_of second;
+  third = terms_of third;
   are_first = a;
   are_second = b;
   are_third = c;
-  joined = map-append (λ f. f.terms) (first ++ second) third ∙ ap (λ w. w ++ term_lists third) (map-append (λ f. f.terms) first second);
+  joined = map-append (λ f. f.terms) (first ++ second) third ∙ ap (λ w. w ++ terms_of third) (map-append (λ f. f.terms) first second);
 }

@@ -13,7 +13,7 @@ use Rattle.polys.specs.Poly.{Polynomial, IsPlain, derivative_of, term_multiple_o
 use Rattle.polys.specs.Terms.{EachMono, OnlyFirst, IsAffine, IsPoly, degree_of, derived, derivative, add, mul, multiple, scaled, products, normal, one}
 use Rattle.polys.proofs.Affine.{poly_normal, poly_one, poly_add, poly_sub, poly_mul, poly_multiple, affine_unit}
 use Rattle.polys.proofs.Degrees.{AtMost, each_degree, degree_le, degree_of-mul, degree_of-add}
-use Rattle.polys.proofs.Derivatives.{derived_list, derived_is, stays, lowered}
+use Rattle.polys.proofs.Derivatives.{derived_list, derived_is, stays, lowered, has_variable}
 use Rattle.polys.proofs.Each.{every_more, every_normal, every_multiple}
 use Rattle.polys.proofs.Leads.{Seven}
 use Rattle.jacobian_pick.specs.Candidates.{over_pairs, over_others, partials, minor, row_minors, jacobian, number_sums, variable_sums}
@@ -55,12 +55,6 @@ degree-lowered : (a : List ℕ) (v : ℕ) → 0 < get_or a v 0 → total_degree 
 degree-lowered [] v h = absurd (omega arith)
 degree-lowered (x ∷ a) zero h = omega arith
 degree-lowered (x ∷ a) (suc v) h = let ih = degree-lowered a v h in omega arith
-
-has_variable : (p k e : ℕ) → ((k * (e % p)) % p ≡ 0 → ⊥) → 0 < e
-has_variable p k zero h =
-    let z : k * 0 ≡ 0 = omega arith in
-    absurd (h (ap (λ (n : ℕ). (k * n) % p) (zero-mod p) ∙ ap (λ (n : ℕ). n % p) z ∙ zero-mod p))
-has_variable p k (suc e) h = omega arith
 
 low_derived : (p v D : ℕ) (f : List Term) → EachMono (AtMost (D + 1)) f → EachMono (AtMost D) (derived_list p v f)
 low_derived p v D [] h = tt

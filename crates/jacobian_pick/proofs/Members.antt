@@ -5,12 +5,11 @@ use Rattle.std.proofs.lemmas.List.{map-append}
 use Rattle.std.proofs.lemmas.List.FromFn.{map-range_with_len_more}
 use Rattle.std.proofs.lemmas.List.Elements.{All-nil, All-cons, All-head, All-tail, All-append}
 use Rattle.polys.specs.declared.term.Term.{Term}
-use Rattle.polys.specs.Poly.{Polynomial}
-use Rattle.module_basis.specs.Gens.{term_lists}
+use Rattle.polys.specs.Poly.{Polynomial, terms_of}
 use Rattle.jacobian_pick.specs.Candidates.{over_pairs, over_others}
 use Rattle.jacobian_pick.specs.Lists.{polynomials}
 
-pub lists_of : (p : ℕ) (fs : List (List Term)) → term_lists (polynomials p fs) ≡ fs
+pub lists_of : (p : ℕ) (fs : List (List Term)) → terms_of (polynomials p fs) ≡ fs
 lists_of p [] = refl
 lists_of p (f ∷ fs) = λ i. f ∷ lists_of p fs i
 

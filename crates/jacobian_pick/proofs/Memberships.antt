@@ -8,12 +8,11 @@ use Rattle.prime_field.specs.Primes.{IsPrime}
 use Rattle.polys.specs.declared.term.Term.{Term}
 use Rattle.polys.specs.Curve.{IsOver}
 use Rattle.polys.specs.Ideal.{InIdeal}
-use Rattle.polys.specs.Poly.{Polynomial}
+use Rattle.polys.specs.Poly.{Polynomial, terms_of}
 use Rattle.polys.specs.Terms.{IsMonicOf, lead}
 use Rattle.homogenising.proofs.Found.{has_leads_law}
 use Rattle.homogenising.proofs.Spanning.{decides_law}
-use Rattle.module_basis.specs.Basis.{IsRemainder}
-use Rattle.module_basis.specs.Gens.{term_lists}
+use Rattle.module_division.specs.Ideals.{IsDivisionRemainder}
 use Rattle.problem.specs.declared.problem.Problem.{Problem}
 use Rattle.problem.specs.Problem.{IsFit}
 use Rattle.jacobian_pick.specs.Candidates.{AreKept}
@@ -38,16 +37,16 @@ is_nil (t ∷ r) o true e h = absurd (cc)
 is_nil (t ∷ r) o false e h = (λ x. absurd (cc), λ x. absurd (cc))
 
 pub decides : (problem : Problem) (basis : List Polynomial) (n : ℕ) (f r : Polynomial) → IsPrime problem.prime → IsBasisOf problem basis → IsOver problem.prime (length problem.letters) f
-    → n ≡ length problem.letters → IsRemainder f.prime n (term_lists basis) f.terms r.terms
-    → (r.terms ≡ []) ↔ InIdeal problem.prime (length problem.letters) (term_lists problem.generators) f.terms
+    → n ≡ length problem.letters → IsDivisionRemainder f.prime n (terms_of basis) f.terms r.terms
+    → (r.terms ≡ []) ↔ InIdeal problem.prime (length problem.letters) (terms_of problem.generators) f.terms
 decides problem basis n f r prime b o e h =
-    let ds = term_lists basis in
-    let k : IsRemainder problem.prime (length problem.letters) (term_lists basis) f.terms r.terms =
-    subst (λ (q : ℕ). IsRemainder q (length problem.letters) (term_lists basis) f.terms r.terms) o.prime (subst (λ (m : ℕ). IsRemainder f.prime m (term_lists basis) f.terms r.terms) e h)
+    let ds = terms_of basis in
+    let k : IsDivisionRemainder problem.prime (length problem.letters) (terms_of basis) f.terms r.terms =
+    subst (λ (q : ℕ). IsDivisionRemainder q (length problem.letters) (terms_of basis) f.terms r.terms) o.prime (subst (λ (m : ℕ). IsDivisionRemainder f.prime m (terms_of basis) f.terms r.terms) e h)
     in
     let d =
-    decides_law problem.prime (length problem.letters) (term_lists basis) (term_lists basis) f.terms r.terms prime b.reduced.reduced.polys
-    (has_leads_law problem.prime (length problem.letters) (term_lists basis) prime b.reduced.reduced) o.poly k.poly k.difference k.outside
+    decides_law problem.prime (length problem.letters) (terms_of basis) (terms_of basis) f.terms r.terms prime b.reduced.reduced.polys
+    (has_leads_law problem.prime (length problem.letters) (terms_of basis) prime b.reduced.reduced) o.poly k.poly k.difference k.outside
     in
     let x = b.reduced.exact f.terms o.poly in
     (λ z. x.0 (d.0 z), λ z. d.1 (x.1 z))
@@ -80,34 +79,34 @@ module _ (p n : ℕ) (gs : List (List Term)) where
       (All-cons (IsLow p n D) m rest (monic_low p n D f m pos (All-head (IsLow p n D) f fs a) h) (kept_low D fs rest pos k (All-tail (IsLow p n D) f fs a)))
 
   -- one more turn of the loop
-  pub next : (xs : List Polynomial) (i : ℕ) (x : Polynomial) → i < length xs → x ≡ get_or xs i x → term_lists (take (i + 1) xs) ≡ term_lists (take i xs) ++ x.terms ∷ []
-  next xs i x h e = ap term_lists (take_more xs i x h ∙ (λ j. take i xs ++ sym e j ∷ [])) ∙ map-append (λ f. f.terms) (take i xs) (x ∷ [])
+  pub next : (xs : List Polynomial) (i : ℕ) (x : Polynomial) → i < length xs → x ≡ get_or xs i x → terms_of (take (i + 1) xs) ≡ terms_of (take i xs) ++ x.terms ∷ []
+  next xs i x h e = ap terms_of (take_more xs i x h ∙ (λ j. take i xs ++ sym e j ∷ [])) ∙ map-append (λ f. f.terms) (take i xs) (x ∷ [])
 
-  pub still : (xs ms : List Polynomial) (i : ℕ) (x : Polynomial) → i < length xs → x ≡ get_or xs i x → AreKept p n gs (term_lists (take i xs)) (term_lists ms) → InIdeal p n gs x.terms
-      → AreKept p n gs (term_lists (take (i + 1) xs)) (term_lists ms)
-  still xs ms i x h e k a = subst (λ w. AreKept p n gs w (term_lists ms)) (sym (next xs i x h e)) (kept_without (term_lists (take i xs)) (term_lists ms) x.terms k a)
+  pub still : (xs ms : List Polynomial) (i : ℕ) (x : Polynomial) → i < length xs → x ≡ get_or xs i x → AreKept p n gs (terms_of (take i xs)) (terms_of ms) → InIdeal p n gs x.terms
+      → AreKept p n gs (terms_of (take (i + 1) xs)) (terms_of ms)
+  still xs ms i x h e k a = subst (λ w. AreKept p n gs w (terms_of ms)) (sym (next xs i x h e)) (kept_without (terms_of (take i xs)) (terms_of ms) x.terms k a)
 
-  pub one_more : (xs ms more : List Polynomial) (i : ℕ) (x m : Polynomial) → i < length xs → x ≡ get_or xs i x → AreKept p n gs (term_lists (take i xs)) (term_lists ms)
-      → (InIdeal p n gs x.terms → ⊥) → IsMonicOf p x.terms m.terms → more ≡ ms ++ m ∷ [] → AreKept p n gs (term_lists (take (i + 1) xs)) (term_lists more)
+  pub one_more : (xs ms more : List Polynomial) (i : ℕ) (x m : Polynomial) → i < length xs → x ≡ get_or xs i x → AreKept p n gs (terms_of (take i xs)) (terms_of ms)
+      → (InIdeal p n gs x.terms → ⊥) → IsMonicOf p x.terms m.terms → more ≡ ms ++ m ∷ [] → AreKept p n gs (terms_of (take (i + 1) xs)) (terms_of more)
   one_more xs ms more i x m h e k a b c =
-      subst (λ w. AreKept p n gs (term_lists (take (i + 1) xs)) w) (sym (ap term_lists c ∙ map-append (λ f. f.terms) ms (m ∷ [])))
-      (subst (λ w. AreKept p n gs w (term_lists ms ++ m.terms ∷ [])) (sym (next xs i x h e)) (kept_with (term_lists (take i xs)) (term_lists ms) x.terms m.terms k a b))
+      subst (λ w. AreKept p n gs (terms_of (take (i + 1) xs)) w) (sym (ap terms_of c ∙ map-append (λ f. f.terms) ms (m ∷ [])))
+      (subst (λ w. AreKept p n gs w (terms_of ms ++ m.terms ∷ [])) (sym (next xs i x h e)) (kept_with (terms_of (take i xs)) (terms_of ms) x.terms m.terms k a b))
 
 -- ---- polynomials of the program
 
 module _ (p n D : ℕ) where
-  pub up_to : (fs : List Polynomial) → All (λ f. f.prime ≡ p) fs → All (IsLow p n D) (term_lists fs) → All (IsUpTo p n D) fs
+  pub up_to : (fs : List Polynomial) → All (λ f. f.prime ≡ p) fs → All (IsLow p n D) (terms_of fs) → All (IsUpTo p n D) fs
   up_to [] a b = All-nil (IsUpTo p n D)
   up_to (f ∷ fs) a b =
-      let h = All-head (IsLow p n D) f.terms (term_lists fs) b in
+      let h = All-head (IsLow p n D) f.terms (terms_of fs) b in
       All-cons (IsUpTo p n D) f fs (record { over = record { prime = All-head (λ (g : Polynomial). g.prime ≡ p) f fs a; poly = h.poly }; low = h.low })
-      (up_to fs (All-tail (λ (g : Polynomial). g.prime ≡ p) f fs a) (All-tail (IsLow p n D) f.terms (term_lists fs) b))
+      (up_to fs (All-tail (λ (g : Polynomial). g.prime ≡ p) f fs a) (All-tail (IsLow p n D) f.terms (terms_of fs) b))
 
-  pub lows : (fs : List Polynomial) → All (IsUpTo p n D) fs → All (IsLow p n D) (term_lists fs)
+  pub lows : (fs : List Polynomial) → All (IsUpTo p n D) fs → All (IsLow p n D) (terms_of fs)
   lows [] a = All-nil (IsLow p n D)
   lows (f ∷ fs) a =
       let h = All-head (IsUpTo p n D) f fs a in
-      All-cons (IsLow p n D) f.terms (term_lists fs) (record { poly = h.over.poly; low = h.low }) (lows fs (All-tail (IsUpTo p n D) f fs a))
+      All-cons (IsLow p n D) f.terms (terms_of fs) (record { poly = h.over.poly; low = h.low }) (lows fs (All-tail (IsUpTo p n D) f fs a))
 
   pub overs : (fs : List Polynomial) → All (IsUpTo p n D) fs → All (IsOver p n) fs
   overs [] a = All-nil (IsOver p n)
@@ -115,10 +114,10 @@ module _ (p n D : ℕ) where
 
   -- what is kept of a list of polynomials
   pub listed : (gs xs : List (List Term)) (raw ms : List Polynomial) → 0 < p → raw ≡ polynomials p xs → All (IsLow p n D) xs → All (λ m. m.prime ≡ p) ms
-      → AreKept p n gs (term_lists raw) (term_lists ms) → All (IsUpTo p n D) ms × AreKept p n gs xs (term_lists ms)
+      → AreKept p n gs (terms_of raw) (terms_of ms) → All (IsUpTo p n D) ms × AreKept p n gs xs (terms_of ms)
   listed gs xs raw ms pos e a b k =
-      let is : AreKept p n gs xs (term_lists ms) = subst (λ w. AreKept p n gs w (term_lists ms)) (ap term_lists e ∙ lists_of p xs) k in
-      (up_to ms b (kept_low p n gs D xs (term_lists ms) pos is a), is)
+      let is : AreKept p n gs xs (terms_of ms) = subst (λ w. AreKept p n gs w (terms_of ms)) (ap terms_of e ∙ lists_of p xs) k in
+      (up_to ms b (kept_low p n gs D xs (terms_of ms) pos is a), is)
 
   pub over_raw : (xs : List (List Term)) (raw : List Polynomial) → raw ≡ polynomials p xs → All (IsLow p n D) xs → All (IsOver p n) raw
   over_raw xs raw e a = subst (All (IsOver p n)) (sym e) (go xs a)

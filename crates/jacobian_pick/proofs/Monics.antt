@@ -8,7 +8,7 @@ use Rattle.monomials.specs.Mono.{Monomial, cmp_dp}
 use Rattle.monomials.proofs.Order.{same_dp, self_dp, turn_up}
 use Rattle.polys.specs.declared.term.Term.{Term}
 use Rattle.polys.specs.Terms.{scaled, multiple, IsMonic, IsMonicOf}
-use Rattle.polys.proofs.Weights.{weigh, tie, same, Canon, normal_canon, none_under, weigh-normal}
+use Rattle.polys.proofs.Weights.{weigh, tie, same, Canon, normal_canon, none_under, weigh-normal, at_head}
 use Rattle.polys.proofs.Units.{weigh-scaled}
 
 -- ---- residues
@@ -40,14 +40,6 @@ no_residue p a b c d h k l =
 
 -- ---- multiples of one polynomial
 
-lead_weight : (p : ℕ) (t : Term) (f : List Term) → Canon p (t ∷ f) → weigh (same t.mono) (t ∷ f) % p ≡ t.coeff
-unfolding weigh Canon
-lead_weight p t f c =
-    let o : same t.mono t.mono ≡ 1 = ap tie (self_dp t.mono) in
-    let z = none_under p t.mono f c.3 c.2 in
-    let e : t.coeff * same t.mono t.mono + weigh (same t.mono) f ≡ t.coeff = rw (o, z) (omega arith) in
-    ap (λ (n : ℕ). n % p) e ∙ c.1
-
 weigh-multiple : (p c : ℕ) (f : List Term) (χ : Monomial → ℕ) → weigh χ (multiple p c f) % p ≡ (c * weigh χ f) % p
 weigh-multiple p c f χ = weigh-normal p χ (scaled c f) ∙ ap (λ (n : ℕ). n % p) (weigh-scaled χ c f)
 
@@ -58,7 +50,7 @@ module _ (p c d : ℕ) (f : List Term) (lc : c < p) (ld : d < p) where
   -- the coefficient at the lead of a monic multiple is 1
   at_lead : (b : ℕ) (y : Term) (ys : List Term) → y ∷ ys ≡ multiple p b f → y.coeff ≡ 1 → (b * weigh (same y.mono) f) % p ≡ 1
   at_lead b y ys e o =
-      sym (weigh-multiple p b f (same y.mono)) ∙ ap (λ g. weigh (same y.mono) g % p) (sym e) ∙ lead_weight p y ys (canon_of b (y ∷ ys) e) ∙ o
+      sym (weigh-multiple p b f (same y.mono)) ∙ ap (λ g. weigh (same y.mono) g % p) (sym e) ∙ at_head p y ys (canon_of b (y ∷ ys) e) ∙ o
 
   -- and that at a greater monomial 0
   above_lead : (b : ℕ) (m : Monomial) (y : Term) (ys : List Term) → y ∷ ys ≡ multiple p b f → cmp_dp m y.mono ≡ Greater → (b * weigh (same m) f) % p ≡ 0

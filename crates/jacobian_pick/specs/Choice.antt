@@ -11,7 +11,7 @@ use Rattle.polys.specs.Terms.{IsMonicOf, one, degree_of}
 use Rattle.graded_modules.specs.Deep.{IsDeep}
 use Rattle.homogenising.specs.Homogenised.{all_homogenised}
 use Rattle.denominator_module.specs.Module.{IsDeepDenominator}
-use Rattle.module_basis.specs.Gens.{term_lists}
+use Rattle.polys.specs.Poly.{terms_of}
 use Rattle.lift_colon.specs.Lifted.{LiftedData, IsLifted}
 use Rattle.problem.specs.Problem.{ProblemData, curve_of}
 use Rattle.jacobian_pick.specs.Candidates.{AreCandidates}
@@ -124,7 +124,7 @@ IsCause problem cap Memory = ⊤
 pub record IsLiftedOf (problem : ProblemData) (l : LiftedData) : Type 0 where
   pub prime : l.prime ≡ problem.prime
   pub variables : l.variables ≡ length problem.letters
-  pub ideal : IsReducedBasis problem.prime (length problem.letters) (InIdeal problem.prime (length problem.letters) problem.generators) (term_lists l.ideal)
+  pub ideal : IsReducedBasis problem.prime (length problem.letters) (InIdeal problem.prime (length problem.letters) problem.generators) (terms_of l.ideal)
 
 -- the curve of the ideal with fractions over the denominator
 abbrev pub curve_of_lifted : LiftedData → Curve

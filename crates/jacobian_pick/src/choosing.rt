@@ -5,7 +5,7 @@ ghost use Rattle.jacobian_pick.specs.Lists.{IsBasisOf, IsUpTo};
 ghost use Rattle.problem.specs.Problem.{IsReady, problem_data, curve_of};
 ghost use Rattle.jacobian_pick.specs.declared.choosing.PickStop.TheVariants.{Memory};
 ghost use Rattle.lift_colon.specs.Lifted.{IsLifted};
-ghost use Rattle.module_basis.specs.Gens.{term_lists};
+ghost use Rattle.polys.specs.Poly.{terms_of};
 ghost use Rattle.polys.specs.Curve.{Fit, HasDimModulo, IsOver, data_of};
 ghost use Rattle.polys.specs.declared.term.Term.{Term};
 
@@ -148,8 +148,8 @@ fn first_good(
     requires not_deep { HasDeepIdeal (problem_data problem.now) cap → ⊥ }
     requires some_cap { 1 ≤ cap }
     requires cap { cap ≤ 1000 }
-    ensures found { IfOk result (λ found. IfSome found (λ l. IsFound (problem_data problem.now) cap (term_lists list.now) l)) }
-    ensures none { IfOk result (λ found. IsNone found → All (λ d. IsGood (problem_data problem.now) cap d → ⊥) (term_lists list.now)) }
+    ensures found { IfOk result (λ found. IfSome found (λ l. IsFound (problem_data problem.now) cap (terms_of list.now) l)) }
+    ensures none { IfOk result (λ found. IsNone found → All (λ d. IsGood (problem_data problem.now) cap d → ⊥) (terms_of list.now)) }
 {
     for d in list {
         match tried(alloc, problem, basis, d, cap) {

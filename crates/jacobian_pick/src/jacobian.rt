@@ -2,7 +2,7 @@
 ghost use Rattle.std.specs.Prelude.{◌≡◌, ◌<◌, ◌++◌, [], ◌∷◌, All, IfOk, OnOk, flat_map};
 ghost use Rattle.jacobian_pick.specs.Candidates.{over_pairs, partials, minor, row_minors, jacobian};
 ghost use Rattle.jacobian_pick.specs.Lists.{polynomials, IsUpTo};
-ghost use Rattle.module_basis.specs.Gens.{term_lists};
+ghost use Rattle.polys.specs.Poly.{terms_of};
 ghost use Rattle.polys.specs.Terms.{one};
 
 use lists::{List, NoMemory};
@@ -14,7 +14,7 @@ use std::alloc::Global;
 // The partial derivatives of each polynomial by the first variable and by the second.
 fn partials(alloc: Global, prime: Prime, gens: &[Poly]) -> Result<List<Poly>, NoMemory>
     requires { All (IsUpTo prime 2 60) gens.now }
-    ensures { IfOk result (λ fs. fs ≡ polynomials prime (flat_map (partials prime) (term_lists gens.now))) }
+    ensures { IfOk result (λ fs. fs ≡ polynomials prime (flat_map (partials prime) (terms_of gens.now))) }
 {
     let mut entries = List::new(alloc);
     for f in gens {
@@ -52,7 +52,7 @@ fn push_row_minors(prime: Prime, f: &Poly, g: &Poly, into: &mut List<Poly>) -> R
 fn push_minors(prime: Prime, f: &Poly, rows: &[Poly], into: &mut List<Poly>) -> Result<(), NoMemory>
     requires f { IsUpTo prime 3 60 f.now }
     requires rows { All (IsUpTo prime 3 60) rows.now }
-    ensures { OnOk result (into.new ≡ into.old ++ polynomials prime (flat_map (row_minors prime f.now.terms) (term_lists rows.now))) }
+    ensures { OnOk result (into.new ≡ into.old ++ polynomials prime (flat_map (row_minors prime f.now.terms) (terms_of rows.now))) }
 {
     for g in rows {
         push_row_minors(prime, f, g, into)?;
@@ -63,7 +63,7 @@ fn push_minors(prime: Prime, f: &Poly, rows: &[Poly], into: &mut List<Poly>) -> 
 // The minors of each two rows of three columns.
 fn minors(alloc: Global, prime: Prime, gens: &[Poly]) -> Result<List<Poly>, NoMemory>
     requires { All (IsUpTo prime 3 60) gens.now }
-    ensures { IfOk result (λ fs. fs ≡ polynomials prime (over_pairs (row_minors prime) (term_lists gens.now))) }
+    ensures { IfOk result (λ fs. fs ≡ polynomials prime (over_pairs (row_minors prime) (terms_of gens.now))) }
 {
     let mut minors = List::new(alloc);
     for i in 0..gens.len() {
@@ -105,7 +105,7 @@ pub fn jacobian(
     gens: &[Poly],
 ) -> Result<List<Poly>, NoMemory>
     requires { All (IsUpTo prime variables 60) gens.now }
-    ensures { IfOk result (λ fs. fs ≡ polynomials prime (jacobian prime variables (term_lists gens.now))) }
+    ensures { IfOk result (λ fs. fs ≡ polynomials prime (jacobian prime variables (terms_of gens.now))) }
 {
     match variables {
         1 => one_alone(alloc, prime),

@@ -3,7 +3,7 @@ ghost use Rattle.std.specs.Prelude.{◌≡◌, ◌≤◌, ℕ, All, IfOk, length
 ghost use Rattle.jacobian_pick.specs.Candidates.{AreFirst, AreSecond, AreThird, AreCandidates};
 ghost use Rattle.jacobian_pick.specs.Lists.{IsBasisOf, IsUpTo};
 ghost use Rattle.problem.specs.Problem.{IsReady, problem_data};
-ghost use Rattle.module_basis.specs.Gens.{term_lists};
+ghost use Rattle.polys.specs.Poly.{terms_of};
 
 use crate::jacobian::jacobian;
 use crate::membership::{kept, variables_of};
@@ -25,7 +25,7 @@ fn first_list(alloc: Global, problem: &Problem, basis: &[Poly]) -> Result<List<P
     requires ready { IsReady problem.now }
     requires basis { IsBasisOf problem.now basis.now }
     ensures low { IfOk result (λ ms. All (IsUpTo problem.now.prime (length problem.now.letters) 118) ms) }
-    ensures exact { IfOk result (λ ms. AreFirst (problem_data problem.now) (term_lists ms)) }
+    ensures exact { IfOk result (λ ms. AreFirst (problem_data problem.now) (terms_of ms)) }
 {
     let _prime = problem.prime.get();
     let variables = variables_of(problem);
@@ -49,7 +49,7 @@ fn second_list(
     requires basis { IsBasisOf problem.now basis.now }
     requires first { All (IsUpTo problem.now.prime (length problem.now.letters) 118) first.now }
     ensures low { IfOk result (λ ms. All (IsUpTo problem.now.prime (length problem.now.letters) 119) ms) }
-    ensures exact { IfOk result (λ ms. AreSecond (problem_data problem.now) (term_lists first.now) (term_lists ms)) }
+    ensures exact { IfOk result (λ ms. AreSecond (problem_data problem.now) (terms_of first.now) (terms_of ms)) }
 {
     let _prime = problem.prime.get();
     let raw = sums_by_numbers(alloc, problem.prime, variables_of(problem), six(first))?;
@@ -67,7 +67,7 @@ fn third_list(
     requires basis { IsBasisOf problem.now basis.now }
     requires first { All (IsUpTo problem.now.prime (length problem.now.letters) 118) first.now }
     ensures low { IfOk result (λ ms. All (IsUpTo problem.now.prime (length problem.now.letters) 119) ms) }
-    ensures exact { IfOk result (λ ms. AreThird (problem_data problem.now) (term_lists first.now) (term_lists ms)) }
+    ensures exact { IfOk result (λ ms. AreThird (problem_data problem.now) (terms_of first.now) (terms_of ms)) }
 {
     let _prime = problem.prime.get();
     let raw = sums_by_variables(alloc, problem.prime, variables_of(problem), six(first))?;
@@ -87,7 +87,7 @@ pub fn candidates(alloc: Global, problem: &Problem, basis: &[Poly]) -> Result<Li
     requires ready { IsReady problem.now }
     requires basis { IsBasisOf problem.now basis.now }
     ensures low { IfOk result (λ cs. All (IsUpTo problem.now.prime (length problem.now.letters) 119) cs) }
-    ensures exact { IfOk result (λ cs. AreCandidates (problem_data problem.now) (term_lists cs)) }
+    ensures exact { IfOk result (λ cs. AreCandidates (problem_data problem.now) (terms_of cs)) }
 {
     let first = first_list(alloc, problem, basis)?;
     let second = second_list(alloc, problem, basis, first.as_slice())?;

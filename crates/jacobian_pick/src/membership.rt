@@ -3,7 +3,7 @@ ghost use Rattle.std.specs.Prelude.{◌≡◌, ◌↔◌, ◌≤◌, ℕ, All, I
 ghost use Rattle.jacobian_pick.specs.Candidates.{AreKept};
 ghost use Rattle.jacobian_pick.specs.Lists.{IsBasisOf};
 ghost use Rattle.problem.specs.Problem.{IsReady};
-ghost use Rattle.module_basis.specs.Gens.{term_lists};
+ghost use Rattle.polys.specs.Poly.{terms_of};
 ghost use Rattle.polys.specs.Curve.{IsOver};
 ghost use Rattle.polys.specs.Ideal.{InIdeal};
 
@@ -27,7 +27,7 @@ pub fn is_member(problem: &Problem, basis: &[Poly], f: &Poly) -> Result<bool, No
     requires ready { IsReady problem.now }
     requires basis { IsBasisOf problem.now basis.now }
     requires over { IsOver problem.now.prime (length problem.now.letters) f.now }
-    ensures { IfOk result (λ yes. IsTrue yes ↔ InIdeal problem.now.prime (length problem.now.letters) (term_lists problem.now.generators) f.now.terms) }
+    ensures { IfOk result (λ yes. IsTrue yes ↔ InIdeal problem.now.prime (length problem.now.letters) (terms_of problem.now.generators) f.now.terms) }
 {
     let _prime = problem.prime.get();
     let rest = remainder(variables_of(problem), f, basis)?;
@@ -45,7 +45,7 @@ pub fn kept(
     requires basis { IsBasisOf problem.now basis.now }
     requires over { All (IsOver problem.now.prime (length problem.now.letters)) polynomials.now }
     ensures primes { IfOk result (λ ms. All (λ m. m.prime ≡ problem.now.prime) ms) }
-    ensures kept { IfOk result (λ ms. AreKept problem.now.prime (length problem.now.letters) (term_lists problem.now.generators) (term_lists polynomials.now) (term_lists ms)) }
+    ensures kept { IfOk result (λ ms. AreKept problem.now.prime (length problem.now.letters) (terms_of problem.now.generators) (terms_of polynomials.now) (terms_of ms)) }
 {
     let mut kept = List::new(alloc);
     for f in polynomials {

@@ -2,7 +2,7 @@
 ghost use Rattle.std.specs.Prelude.{◌≡◌, ◌<◌, ◌≤◌, ◌++◌, ℕ, [], All, IfOk, OnOk, flat_map};
 ghost use Rattle.jacobian_pick.specs.Candidates.{over_pairs, over_others, number_sums, variable_sums};
 ghost use Rattle.jacobian_pick.specs.Lists.{polynomials, IsUpTo};
-ghost use Rattle.module_basis.specs.Gens.{term_lists};
+ghost use Rattle.polys.specs.Poly.{terms_of};
 
 use lists::{List, NoMemory};
 use monomials::Mono;
@@ -43,7 +43,7 @@ fn push_all_number_sums(
 ) -> Result<(), NoMemory>
     requires f { IsUpTo prime variables 118 f.now }
     requires others { All (IsUpTo prime variables 118) others.now }
-    ensures { OnOk result (into.new ≡ into.old ++ polynomials prime (flat_map (number_sums prime f.now.terms) (term_lists others.now))) }
+    ensures { OnOk result (into.new ≡ into.old ++ polynomials prime (flat_map (number_sums prime f.now.terms) (terms_of others.now))) }
 {
     for g in others {
         push_number_sums(prime, variables, f, g, into)?;
@@ -59,7 +59,7 @@ pub fn sums_by_numbers(
     members: &[Poly],
 ) -> Result<List<Poly>, NoMemory>
     requires { All (IsUpTo prime variables 118) members.now }
-    ensures { IfOk result (λ fs. fs ≡ polynomials prime (over_pairs (number_sums prime) (term_lists members.now))) }
+    ensures { IfOk result (λ fs. fs ≡ polynomials prime (over_pairs (number_sums prime) (terms_of members.now))) }
 {
     let mut sums = List::new(alloc);
     for i in 0..members.len() {
@@ -103,7 +103,7 @@ fn push_all_variable_sums(
     requires variables { variables ≤ 6 }
     requires f { IsUpTo prime variables 118 f.now }
     requires others { All (IsUpTo prime variables 118) others.now }
-    ensures { OnOk result (into.new ≡ into.old ++ polynomials prime (flat_map (variable_sums prime variables f.now.terms) (term_lists others.now))) }
+    ensures { OnOk result (into.new ≡ into.old ++ polynomials prime (flat_map (variable_sums prime variables f.now.terms) (terms_of others.now))) }
 {
     for g in others {
         push_variable_sums(prime, variables, f, g, into)?;
@@ -120,7 +120,7 @@ pub fn sums_by_variables(
 ) -> Result<List<Poly>, NoMemory>
     requires variables { variables ≤ 6 }
     requires members { All (IsUpTo prime variables 118) members.now }
-    ensures { IfOk result (λ fs. fs ≡ polynomials prime (over_others (variable_sums prime variables) [] (term_lists members.now))) }
+    ensures { IfOk result (λ fs. fs ≡ polynomials prime (over_others (variable_sums prime variables) [] (terms_of members.now))) }
 {
     let mut sums = List::new(alloc);
     for i in 0..members.len() {

@@ -8,7 +8,7 @@ use Rattle.prime_field.specs.Primes.{IsPrime}
 use Rattle.polys.specs.declared.term.Term.{Term}
 use Rattle.polys.specs.Curve.{IsOver}
 use Rattle.polys.specs.Ideal.{InIdeal, combination}
-use Rattle.polys.specs.Poly.{Polynomial, IsPlain}
+use Rattle.polys.specs.Poly.{Polynomial, IsPlain, terms_of}
 use Rattle.polys.specs.Reduced.{IsReducedBasis}
 use Rattle.polys.specs.Terms.{EachMono, IsPoly, IsMonic, degree_of, mul}
 use Rattle.polys.proofs.Degrees.{AtMost, degree_le}
@@ -31,21 +31,22 @@ use Rattle.denominator_module.proofs.Pairs.{homogeneous_gs}
 use Rattle.denominator_module.proofs.Seconds.{seconds_of, colons_are, all_seconds}
 use Rattle.denominator_module.proofs.Stated.{parts_law}
 use Rattle.module_basis.specs.declared.gens.Gens.{Gens}
-use Rattle.module_basis.specs.Basis.{AreOverOneRing, IsLoweredBasis, AreStandard}
-use Rattle.module_basis.specs.Gens.{AreGens, IsHomogeneousOver, term_lists}
+use Rattle.module_basis.specs.Basis.{AreOverOneRing, IsLoweredBasis}
+use Rattle.module_division.specs.Ideals.{IsMonicStandardBasis}
+use Rattle.module_basis.specs.Gens.{AreGens, IsHomogeneousOver}
 use Rattle.lift_colon.specs.Lifted.{IsLifted, HasModule}
 use Rattle.lift_colon.proofs.Vectors.{given, polys, all_at}
 
 -- ---- lists of polynomials of the program
 
 module _ (p n : ℕ) where
-  over_by : (qs : List Polynomial) → All (λ f. f.prime ≡ p) qs → All (IsPoly p n) (term_lists qs) → All (IsOver p n) qs
+  over_by : (qs : List Polynomial) → All (λ f. f.prime ≡ p) qs → All (IsPoly p n) (terms_of qs) → All (IsOver p n) qs
   over_by [] a b = All-nil (IsOver p n)
   over_by (q ∷ qs) a b =
-      All-cons (IsOver p n) q qs (record { prime = All-head (λ f. f.prime ≡ p) q qs a; poly = All-head (IsPoly p n) q.terms (term_lists qs) b })
-      (over_by qs (All-tail (λ f. f.prime ≡ p) q qs a) (All-tail (IsPoly p n) q.terms (term_lists qs) b))
+      All-cons (IsOver p n) q qs (record { prime = All-head (λ f. f.prime ≡ p) q qs a; poly = All-head (IsPoly p n) q.terms (terms_of qs) b })
+      (over_by qs (All-tail (λ f. f.prime ≡ p) q qs a) (All-tail (IsPoly p n) q.terms (terms_of qs) b))
 
-  pub standard_by : (C : List Term → Type 0) (qs : List Polynomial) (ms : List (List Term)) → All (λ f. f.prime ≡ p) qs → term_lists qs ≡ ms → Generates p n C ms → AreStandard p n qs
+  pub standard_by : (C : List Term → Type 0) (qs : List Polynomial) (ms : List (List Term)) → All (λ f. f.prime ≡ p) qs → terms_of qs ≡ ms → Generates p n C ms → IsMonicStandardBasis p n qs
   standard_by C qs ms a e g =
       record {
         over = over_by qs a (subst (All (IsPoly p n)) (sym e) g.polys);
@@ -66,9 +67,9 @@ basis_for p n C D qs e h =
 -- ---- over a graded basis of the module of a denominator
 
 module _ (p n : ℕ) (prime : IsPrime p) (six : n ≤ 6) (generators : List Polynomial) (d : Polynomial) (go : All (IsOver p n) generators) (do_ : IsOver p n d) (m : Gens)
-    (known : AreGens m × IsReduced m.prime m.variables m.shift (term_lists m.vectors)) (ep : m.prime ≡ p) (en : m.variables ≡ n) (es : m.shift ≡ degree_of d.terms)
-    (span : SpanOneModule p n (module_of d.terms (term_lists generators)) (term_lists m.vectors))
-    (low : All (λ f. degree_at (degree_of d.terms) (lead_mono f) ≤ 1000) (term_lists m.vectors)) where
+    (known : AreGens m × IsReduced m.prime m.variables m.shift (terms_of m.vectors)) (ep : m.prime ≡ p) (en : m.variables ≡ n) (es : m.shift ≡ degree_of d.terms)
+    (span : SpanOneModule p n (module_of d.terms (terms_of generators)) (terms_of m.vectors))
+    (low : All (λ f. degree_at (degree_of d.terms) (lead_mono f) ≤ 1000) (terms_of m.vectors)) where
   pos : 0 < p
   pos = let h = prime.0 in omega arith
 
@@ -76,35 +77,35 @@ module _ (p n : ℕ) (prime : IsPrime p) (six : n ≤ 6) (generators : List Poly
   two = let h = prime.0 in omega arith
 
   abbrev pub gs : List (List Term)
-  gs = term_lists generators
+  gs = terms_of generators
 
   abbrev pub bs : List (List Term)
-  bs = term_lists m.vectors
+  bs = terms_of m.vectors
 
-  pub ga : AreGiven p n d.terms (term_lists generators)
+  pub ga : AreGiven p n d.terms (terms_of generators)
   ga = given p n six prime d generators do_ go
 
-  reduced : IsReduced p n (degree_of d.terms) (term_lists m.vectors)
+  reduced : IsReduced p n (degree_of d.terms) (terms_of m.vectors)
   reduced =
-      subst (λ x. IsReduced p n x (term_lists m.vectors)) es (subst (λ x. IsReduced p x m.shift (term_lists m.vectors)) en (subst (λ x. IsReduced x m.variables m.shift (term_lists m.vectors)) ep known.1))
+      subst (λ x. IsReduced p n x (terms_of m.vectors)) es (subst (λ x. IsReduced p x m.shift (terms_of m.vectors)) en (subst (λ x. IsReduced x m.variables m.shift (terms_of m.vectors)) ep known.1))
 
-  pub mb : IsModuleBasis p n d.terms (term_lists generators) (term_lists m.vectors)
+  pub mb : IsModuleBasis p n d.terms (terms_of generators) (terms_of m.vectors)
   mb = record { vectors = reduced.vectors; monic = reduced.monic; same = span; all_leads = reduced.all_leads }
 
   pub vectors_over : All (IsHomogeneousOver p n (degree_of d.terms)) m.vectors
   vectors_over = all_at m.prime p m.variables n m.shift (degree_of d.terms) m.vectors ep en es known.0.vectors
 
-  pub low_at : All (λ f. degree_at (degree_of d.terms) (lead_mono f) ≤ 1000) (term_lists m.vectors)
+  pub low_at : All (λ f. degree_at (degree_of d.terms) (lead_mono f) ≤ 1000) (terms_of m.vectors)
   low_at = low
 
-  pub sum_standard : (qs : List Polynomial) → All (λ f. f.prime ≡ p) qs → term_lists qs ≡ sum_members p (term_lists m.vectors) → AreStandard p n qs
+  pub sum_standard : (qs : List Polynomial) → All (λ f. f.prime ≡ p) qs → terms_of qs ≡ sum_members p (terms_of m.vectors) → IsMonicStandardBasis p n qs
   sum_standard qs a e =
-      standard_by p n (InIdeal p n (d.terms ∷ term_lists generators)) qs (sum_members p (term_lists m.vectors)) a e (parts_law.sum p n d.terms (term_lists generators) (term_lists m.vectors) ga mb)
+      standard_by p n (InIdeal p n (d.terms ∷ terms_of generators)) qs (sum_members p (terms_of m.vectors)) a e (parts_law.sum p n d.terms (terms_of generators) (terms_of m.vectors) ga mb)
 
-  pub colon_standard : (qs : List Polynomial) → All (λ f. f.prime ≡ p) qs → term_lists qs ≡ colon_members p (term_lists m.vectors) → AreStandard p n qs
+  pub colon_standard : (qs : List Polynomial) → All (λ f. f.prime ≡ p) qs → terms_of qs ≡ colon_members p (terms_of m.vectors) → IsMonicStandardBasis p n qs
   colon_standard qs a e =
-      standard_by p n (InColon p n (term_lists generators) d.terms) qs (colon_members p (term_lists m.vectors)) a e
-      (parts_law.colon p n d.terms (term_lists generators) (term_lists m.vectors) ga mb)
+      standard_by p n (InColon p n (terms_of generators) d.terms) qs (colon_members p (terms_of m.vectors)) a e
+      (parts_law.colon p n d.terms (terms_of generators) (terms_of m.vectors) ga mb)
 
   -- ---- the colon members are low
 
@@ -128,16 +129,16 @@ module _ (p n : ℕ) (prime : IsPrime p) (six : n ≤ 6) (generators : List Poly
           let more : total_degree w.exponents ≤ total_degree w.exponents + w.component * degree_of d.terms = omega arith in
           omega arith
 
-  pub colon_low : (qs : List Polynomial) → term_lists qs ≡ colon_members p (term_lists m.vectors) → All (λ f. degree_of f ≤ 1000) (term_lists qs)
+  pub colon_low : (qs : List Polynomial) → terms_of qs ≡ colon_members p (terms_of m.vectors) → All (λ f. degree_of f ≤ 1000) (terms_of qs)
   colon_low qs e =
-      subst (All (λ f. degree_of f ≤ 1000)) (sym (e ∙ colons_are p (term_lists m.vectors)))
-      (each (seconds_of (term_lists m.vectors))
-      (all_seconds (λ b. (IsGenerator p n (degree_of d.terms) b × IsMonic b) × (degree_at (degree_of d.terms) (lead_mono b) ≤ 1000)) (λ f. degree_of (dehomogenised p f) ≤ 1000) (term_lists m.vectors)
+      subst (All (λ f. degree_of f ≤ 1000)) (sym (e ∙ colons_are p (terms_of m.vectors)))
+      (each (seconds_of (terms_of m.vectors))
+      (all_seconds (λ b. (IsGenerator p n (degree_of d.terms) b × IsMonic b) × (degree_at (degree_of d.terms) (lead_mono b) ≤ 1000)) (λ f. degree_of (dehomogenised p f) ≤ 1000) (terms_of m.vectors)
       (λ b h z. low_second b h)
-      (all_from (λ b. (IsGenerator p n (degree_of d.terms) b × IsMonic b) × (degree_at (degree_of d.terms) (lead_mono b) ≤ 1000)) (term_lists m.vectors)
+      (all_from (λ b. (IsGenerator p n (degree_of d.terms) b × IsMonic b) × (degree_at (degree_of d.terms) (lead_mono b) ≤ 1000)) (terms_of m.vectors)
       (λ b c. (
-        (All-contains (IsGenerator p n (degree_of d.terms)) (term_lists m.vectors) b reduced.vectors c, All-contains IsMonic (term_lists m.vectors) b reduced.monic c),
-        All-contains (λ f. degree_at (degree_of d.terms) (lead_mono f) ≤ 1000) (term_lists m.vectors) b low_at c,
+        (All-contains (IsGenerator p n (degree_of d.terms)) (terms_of m.vectors) b reduced.vectors c, All-contains IsMonic (terms_of m.vectors) b reduced.monic c),
+        All-contains (λ f. degree_at (degree_of d.terms) (lead_mono f) ≤ 1000) (terms_of m.vectors) b low_at c,
       )))))
     where
       each : (fs : List (List Term)) → All (λ f. degree_of (dehomogenised p f) ≤ 1000) fs → All (λ f. degree_of f ≤ 1000) (all_dehomogenised p fs)
@@ -148,11 +149,11 @@ module _ (p n : ℕ) (prime : IsPrime p) (six : n ≤ 6) (generators : List Poly
 
   -- ---- all of it
 
-  module _ (ideal : List Polynomial) (io : All (IsOver p n) ideal) (ib : IsReducedBasis p n (InIdeal p n (term_lists generators)) (term_lists ideal)) where
-    same_ideal : (f : List Term) → InIdeal p n (term_lists generators) f ↔ InIdeal p n (term_lists ideal) f
+  module _ (ideal : List Polynomial) (io : All (IsOver p n) ideal) (ib : IsReducedBasis p n (InIdeal p n (terms_of generators)) (terms_of ideal)) where
+    same_ideal : (f : List Term) → InIdeal p n (terms_of generators) f ↔ InIdeal p n (terms_of ideal) f
     same_ideal f = (
-      λ r. (ib.exact f (in_poly p n (term_lists generators) f pos ga.generators r)).1 r,
-      λ r. (ib.exact f (in_poly p n (term_lists ideal) f pos ib.reduced.polys r)).0 r,
+      λ r. (ib.exact f (in_poly p n (terms_of generators) f pos ga.generators r)).1 r,
+      λ r. (ib.exact f (in_poly p n (terms_of ideal) f pos ib.reduced.polys r)).0 r,
     )
 
     larger : (hs cs : List (List Term)) → All (IsPoly p n) hs → ((f : List Term) → InIdeal p n hs f → InIdeal p n cs f) → (f : List Term) → InIdeal p n (d.terms ∷ hs) f → InIdeal p n (d.terms ∷ cs) f
@@ -161,15 +162,15 @@ module _ (p n : ℕ) (prime : IsPrime p) (six : n ≤ 6) (generators : List Poly
         (All-cons (InIdeal p n (d.terms ∷ cs)) d.terms hs (in_head p n d.terms cs two do_.poly)
         (all_from (InIdeal p n (d.terms ∷ cs)) hs (λ g c. in_more p n d.terms cs g (k g (in_generator p n hs g two h c))))) r
 
-    same_sum : (f : List Term) → IsPoly p n f → InIdeal p n (d.terms ∷ term_lists generators) f ↔ InIdeal p n (d.terms ∷ term_lists ideal) f
+    same_sum : (f : List Term) → IsPoly p n f → InIdeal p n (d.terms ∷ terms_of generators) f ↔ InIdeal p n (d.terms ∷ terms_of ideal) f
     same_sum f a = (
-      larger (term_lists generators) (term_lists ideal) ga.generators (λ g r. (same_ideal g).0 r) f,
-      larger (term_lists ideal) (term_lists generators) ib.reduced.polys (λ g r. (same_ideal g).1 r) f,
+      larger (terms_of generators) (terms_of ideal) ga.generators (λ g r. (same_ideal g).0 r) f,
+      larger (terms_of ideal) (terms_of generators) ib.reduced.polys (λ g r. (same_ideal g).1 r) f,
     )
 
-    pub lifted : (some : 1 ≤ n) (sums colons sum colon : List Polynomial) → term_lists sums ≡ sum_members p (term_lists m.vectors) → term_lists colons ≡ colon_members p (term_lists m.vectors)
-        → All (IsOver p n) sum → All (IsOver p n) colon → IsReducedBasis p n (InIdeal p n (term_lists sums)) (term_lists sum) → IsReducedBasis p n (InIdeal p n (term_lists colons)) (term_lists colon)
-        → All (λ f. degree_of f ≤ 1000) (term_lists colon)
+    pub lifted : (some : 1 ≤ n) (sums colons sum colon : List Polynomial) → terms_of sums ≡ sum_members p (terms_of m.vectors) → terms_of colons ≡ colon_members p (terms_of m.vectors)
+        → All (IsOver p n) sum → All (IsOver p n) colon → IsReducedBasis p n (InIdeal p n (terms_of sums)) (terms_of sum) → IsReducedBasis p n (InIdeal p n (terms_of colons)) (terms_of colon)
+        → All (λ f. degree_of f ≤ 1000) (terms_of colon)
         → IsLifted (record { prime = p; variables = n; denominator = d; ideal = ideal; sum = sum; colon = colon })
         × HasModule (record { prime = p; variables = n; denominator = d; ideal = ideal; sum = sum; colon = colon }) m
     lifted some sums colons sum colon es' ec so co bs' bc lc = (
@@ -181,16 +182,16 @@ module _ (p n : ℕ) (prime : IsPrime p) (six : n ≤ 6) (generators : List Poly
         ideal_over = io;
         sum_over = so;
         colon_over = co;
-        ideal = basis_for p n (InIdeal p n (term_lists generators)) (InIdeal p n (term_lists ideal)) (term_lists ideal) (λ f a. same_ideal f) ib;
-        sum = basis_for p n (InIdeal p n (d.terms ∷ term_lists generators)) (InIdeal p n (d.terms ∷ term_lists ideal)) (term_lists sum) same_sum
-            (basis_by p n (InIdeal p n (d.terms ∷ term_lists generators)) (sum_members p (term_lists m.vectors)) (term_lists sum)
-            (parts_law.sum p n d.terms (term_lists generators) (term_lists m.vectors) ga mb) (subst (λ w. IsReducedBasis p n (InIdeal p n w) (term_lists sum)) es' bs'));
-        colon = basis_for p n (InColon p n (term_lists generators) d.terms) (InColon p n (term_lists ideal) d.terms) (term_lists colon) (λ f a. same_ideal (mul p d.terms f))
-            (basis_by p n (InColon p n (term_lists generators) d.terms) (colon_members p (term_lists m.vectors)) (term_lists colon)
-            (parts_law.colon p n d.terms (term_lists generators) (term_lists m.vectors) ga mb) (subst (λ w. IsReducedBasis p n (InIdeal p n w) (term_lists colon)) ec bc));
+        ideal = basis_for p n (InIdeal p n (terms_of generators)) (InIdeal p n (terms_of ideal)) (terms_of ideal) (λ f a. same_ideal f) ib;
+        sum = basis_for p n (InIdeal p n (d.terms ∷ terms_of generators)) (InIdeal p n (d.terms ∷ terms_of ideal)) (terms_of sum) same_sum
+            (basis_by p n (InIdeal p n (d.terms ∷ terms_of generators)) (sum_members p (terms_of m.vectors)) (terms_of sum)
+            (parts_law.sum p n d.terms (terms_of generators) (terms_of m.vectors) ga mb) (subst (λ w. IsReducedBasis p n (InIdeal p n w) (terms_of sum)) es' bs'));
+        colon = basis_for p n (InColon p n (terms_of generators) d.terms) (InColon p n (terms_of ideal) d.terms) (terms_of colon) (λ f a. same_ideal (mul p d.terms f))
+            (basis_by p n (InColon p n (terms_of generators) d.terms) (colon_members p (terms_of m.vectors)) (terms_of colon)
+            (parts_law.colon p n d.terms (terms_of generators) (terms_of m.vectors) ga mb) (subst (λ w. IsReducedBasis p n (InIdeal p n w) (terms_of colon)) ec bc));
         low = lc;
       },
-      record { generators = term_lists generators; given = ga; same = same_ideal; prime = ep; variables = en; shift = es; gens = known.0; reduced = known.1; span = span; low = low_at },
+      record { generators = terms_of generators; given = ga; same = same_ideal; prime = ep; variables = en; shift = es; gens = known.0; reduced = known.1; span = span; low = low_at },
     )
 
 -- ---- a module spanned by polynomials has a basis of polynomials
@@ -216,21 +217,21 @@ deep_same p q n m s t limit u v e f g h x =
     subst (λ w. IsDeep q m t w limit) h (subst (λ w. IsDeep q m w u limit) g (subst (λ w. IsDeep q w s u limit) f (subst (λ w. IsDeep w n s u limit) e x)))
 
 module _ (p n : ℕ) (prime : IsPrime p) (six : n ≤ 6) (ideal : List Polynomial) (io : All (IsOver p n) ideal) (gens b : Gens)
-    (ring : (gens.prime ≡ p) × (gens.variables ≡ n) × (gens.shift ≡ 0)) (lists : term_lists gens.vectors ≡ all_homogenised (term_lists ideal)) (same : AreOverOneRing gens b)
-    (known : IsReduced b.prime b.variables b.shift (term_lists b.vectors)) (span : SpanOneModule gens.prime gens.variables (term_lists gens.vectors) (term_lists b.vectors)) where
-  ga' : AreGiven p n [] (term_lists ideal)
+    (ring : (gens.prime ≡ p) × (gens.variables ≡ n) × (gens.shift ≡ 0)) (lists : terms_of gens.vectors ≡ all_homogenised (terms_of ideal)) (same : AreOverOneRing gens b)
+    (known : IsReduced b.prime b.variables b.shift (terms_of b.vectors)) (span : SpanOneModule gens.prime gens.variables (terms_of gens.vectors) (terms_of b.vectors)) where
+  ga' : AreGiven p n [] (terms_of ideal)
   ga' = record { prime = prime; six = six; denominator = (let h = prime.0 in record { canonical = tt; affine = tt }); generators = polys p n six prime ideal io }
 
-  span_at : SpanOneModule b.prime b.variables (all_homogenised (term_lists ideal)) (term_lists b.vectors)
+  span_at : SpanOneModule b.prime b.variables (all_homogenised (terms_of ideal)) (terms_of b.vectors)
   span_at =
-      subst (λ w. SpanOneModule b.prime b.variables w (term_lists b.vectors)) lists
-      (subst (λ x. SpanOneModule x b.variables (term_lists gens.vectors) (term_lists b.vectors)) (sym same.prime)
-      (subst (λ x. SpanOneModule gens.prime x (term_lists gens.vectors) (term_lists b.vectors)) (sym same.variables) span))
+      subst (λ w. SpanOneModule b.prime b.variables w (terms_of b.vectors)) lists
+      (subst (λ x. SpanOneModule x b.variables (terms_of gens.vectors) (terms_of b.vectors)) (sym same.prime)
+      (subst (λ x. SpanOneModule gens.prime x (terms_of gens.vectors) (terms_of b.vectors)) (sym same.variables) span))
 
-  pub plain_vectors : All (EachMono IsPlain) (term_lists gens.vectors) → All (EachMono IsPlain) (term_lists b.vectors)
+  pub plain_vectors : All (EachMono IsPlain) (terms_of gens.vectors) → All (EachMono IsPlain) (terms_of b.vectors)
   plain_vectors a =
-      plain_basis gens.prime gens.variables (term_lists gens.vectors) (term_lists b.vectors) (let h = prime.0 in let e = ring.0 in omega arith) a
-      (subst (λ x. All (IsGradedVector x gens.variables) (term_lists b.vectors)) same.prime (subst (λ x. All (IsGradedVector b.prime x) (term_lists b.vectors)) same.variables (vectors (term_lists b.vectors) known.vectors)))
+      plain_basis gens.prime gens.variables (terms_of gens.vectors) (terms_of b.vectors) (let h = prime.0 in let e = ring.0 in omega arith) a
+      (subst (λ x. All (IsGradedVector x gens.variables) (terms_of b.vectors)) same.prime (subst (λ x. All (IsGradedVector b.prime x) (terms_of b.vectors)) same.variables (vectors (terms_of b.vectors) known.vectors)))
       span
     where
       vectors : (fs : List (List Term)) → All (IsGenerator b.prime b.variables b.shift) fs → All (IsGradedVector b.prime b.variables) fs
@@ -238,30 +239,30 @@ module _ (p n : ℕ) (prime : IsPrime p) (six : n ≤ 6) (ideal : List Polynomia
       vectors (f ∷ fs) a =
           All-cons (IsGradedVector b.prime b.variables) f fs (All-head (IsGenerator b.prime b.variables b.shift) f fs a).vector (vectors fs (All-tail (IsGenerator b.prime b.variables b.shift) f fs a))
 
-  pub ideal_basis : (ds : List (List Term)) → IsLoweredBasis b ds → IsReducedBasis p n (InIdeal p n (term_lists ideal)) ds
+  pub ideal_basis : (ds : List (List Term)) → IsLoweredBasis b ds → IsReducedBasis p n (InIdeal p n (terms_of ideal)) ds
   ideal_basis ds h =
       let ep = same.prime ∙ ring.0 in
       let en = same.variables ∙ ring.1 in
-      let hom = homogeneous_gs p n [] (term_lists ideal) ga' in
-      let homs = subst (λ x. All (IsHomogeneousPoly x b.variables) (all_homogenised (term_lists ideal))) (sym ep) (subst (λ x. All (IsHomogeneousPoly p x) (all_homogenised (term_lists ideal))) (sym en) hom) in
-      let r = h (all_homogenised (term_lists ideal)) homs span_at in
-      subst (λ w. IsReducedBasis p n (InIdeal p n w) ds) (lower_all p n [] (term_lists ideal) ga' (term_lists ideal) ga'.generators)
-      (subst (λ x. IsReducedBasis p x (InIdeal p x (all_dehomogenised p (all_homogenised (term_lists ideal)))) ds) en
-      (subst (λ x. IsReducedBasis x b.variables (InIdeal x b.variables (all_dehomogenised x (all_homogenised (term_lists ideal)))) ds) ep r))
+      let hom = homogeneous_gs p n [] (terms_of ideal) ga' in
+      let homs = subst (λ x. All (IsHomogeneousPoly x b.variables) (all_homogenised (terms_of ideal))) (sym ep) (subst (λ x. All (IsHomogeneousPoly p x) (all_homogenised (terms_of ideal))) (sym en) hom) in
+      let r = h (all_homogenised (terms_of ideal)) homs span_at in
+      subst (λ w. IsReducedBasis p n (InIdeal p n w) ds) (lower_all p n [] (terms_of ideal) ga' (terms_of ideal) ga'.generators)
+      (subst (λ x. IsReducedBasis p x (InIdeal p x (all_dehomogenised p (all_homogenised (terms_of ideal)))) ds) en
+      (subst (λ x. IsReducedBasis x b.variables (InIdeal x b.variables (all_dehomogenised x (all_homogenised (terms_of ideal)))) ds) ep r))
 
 pub deep_pairs : (p n : ℕ) (d : Polynomial) (ideal : List Polynomial) (pairs : Gens) (limit : ℕ) → pairs.prime ≡ p → pairs.variables ≡ n → pairs.shift ≡ degree_of d.terms
-    → term_lists pairs.vectors ≡ module_of d.terms (term_lists ideal) → IsDeep pairs.prime pairs.variables pairs.shift (term_lists pairs.vectors) limit ↔ IsDeepDenominator p n d.terms (term_lists ideal) limit
+    → terms_of pairs.vectors ≡ module_of d.terms (terms_of ideal) → IsDeep pairs.prime pairs.variables pairs.shift (terms_of pairs.vectors) limit ↔ IsDeepDenominator p n d.terms (terms_of ideal) limit
 deep_pairs p n d ideal pairs limit ep en es ev = (
-  deep_same pairs.prime p pairs.variables n pairs.shift (degree_of d.terms) limit (term_lists pairs.vectors) (module_of d.terms (term_lists ideal)) ep en es ev,
-  deep_same p pairs.prime n pairs.variables (degree_of d.terms) pairs.shift limit (module_of d.terms (term_lists ideal)) (term_lists pairs.vectors) (sym ep) (sym en) (sym es) (sym ev),
+  deep_same pairs.prime p pairs.variables n pairs.shift (degree_of d.terms) limit (terms_of pairs.vectors) (module_of d.terms (terms_of ideal)) ep en es ev,
+  deep_same p pairs.prime n pairs.variables (degree_of d.terms) pairs.shift limit (module_of d.terms (terms_of ideal)) (terms_of pairs.vectors) (sym ep) (sym en) (sym es) (sym ev),
 )
 
-pub span_pairs : (p n : ℕ) (d : Polynomial) (ideal : List Polynomial) (pairs b : Gens) → pairs.prime ≡ p → pairs.variables ≡ n → term_lists pairs.vectors ≡ module_of d.terms (term_lists ideal)
-    → SpanOneModule pairs.prime pairs.variables (term_lists pairs.vectors) (term_lists b.vectors) → SpanOneModule p n (module_of d.terms (term_lists ideal)) (term_lists b.vectors)
+pub span_pairs : (p n : ℕ) (d : Polynomial) (ideal : List Polynomial) (pairs b : Gens) → pairs.prime ≡ p → pairs.variables ≡ n → terms_of pairs.vectors ≡ module_of d.terms (terms_of ideal)
+    → SpanOneModule pairs.prime pairs.variables (terms_of pairs.vectors) (terms_of b.vectors) → SpanOneModule p n (module_of d.terms (terms_of ideal)) (terms_of b.vectors)
 span_pairs p n d ideal pairs b ep en ev h =
-    subst (λ w. SpanOneModule p n w (term_lists b.vectors)) ev
-    (subst (λ x. SpanOneModule p x (term_lists pairs.vectors) (term_lists b.vectors)) en
-    (subst (λ x. SpanOneModule x pairs.variables (term_lists pairs.vectors) (term_lists b.vectors)) ep h))
+    subst (λ w. SpanOneModule p n w (terms_of b.vectors)) ev
+    (subst (λ x. SpanOneModule p x (terms_of pairs.vectors) (terms_of b.vectors)) en
+    (subst (λ x. SpanOneModule x pairs.variables (terms_of pairs.vectors) (terms_of b.vectors)) ep h))
 
 pub ok_more : {T E : Type 0} (r : Result T E) (P Q : T → Type 0) → ((x : T) → P x → Q x) → IfOk r P → IfOk r Q
 ok_more (Ok x) P Q h k = h x k

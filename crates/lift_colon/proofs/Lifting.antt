@@ -7,7 +7,7 @@ use Rattle.std.proofs.lemmas.List.Elements.{All-cons, All-head, All-tail}
 use Rattle.polys.specs.declared.term.Term.{Term}
 use Rattle.polys.specs.Curve.{IsOver}
 use Rattle.polys.specs.Ideal.{HasDim, HasInfiniteDim, InIdeal, Regular, Spans, number_combination}
-use Rattle.polys.specs.Poly.{Polynomial, IsPlain}
+use Rattle.polys.specs.Poly.{Polynomial, IsPlain, terms_of}
 use Rattle.polys.specs.Terms.{EachMono, IsPoly, lead, degree_of, scaled, sub, mul, multiple}
 use Rattle.polys.proofs.Each.{every_more, every_zip}
 use Rattle.polys.proofs.Ideals.{in_head, in_more, in_generator, in_larger, in_poly}
@@ -26,7 +26,6 @@ use Rattle.denominator_module.proofs.Lifts.{lift_law}
 use Rattle.denominator_module.proofs.Pairs.{plain_degree}
 use Rattle.denominator_module.proofs.Seconds.{second_homogeneous}
 use Rattle.module_basis.specs.declared.gens.Gens.{Gens}
-use Rattle.module_basis.specs.Gens.{term_lists}
 use Rattle.standard_monomials.specs.Finding.{HasDimAbove}
 use Rattle.standard_monomials.specs.declared.finding.Dimension.{Dimension}
 use Rattle.lift_colon.proofs.Bases.{ok_more}
@@ -57,10 +56,10 @@ module _ (l : LiftedData) (m : Gens) (h : IsLifted l) (hm : HasModule l m) where
       (All-cons (InIdeal p n (d ∷ cs)) d hs (in_head p n d cs two h.denominator.poly)
       (all_from (InIdeal p n (d ∷ cs)) hs (λ g c. in_more p n d cs g (k g (in_generator p n hs g two a c))))) r
 
-  same_sum : (f : List Term) → InIdeal l.prime l.variables (l.denominator.terms ∷ hm.generators) f ↔ InIdeal l.prime l.variables (l.denominator.terms ∷ term_lists l.ideal) f
+  same_sum : (f : List Term) → InIdeal l.prime l.variables (l.denominator.terms ∷ hm.generators) f ↔ InIdeal l.prime l.variables (l.denominator.terms ∷ terms_of l.ideal) f
   same_sum f = (
-    larger hm.generators (term_lists l.ideal) hm.given.generators (λ g r. (hm.same g).0 r) f,
-    larger (term_lists l.ideal) hm.generators h.ideal.reduced.polys (λ g r. (hm.same g).1 r) f,
+    larger hm.generators (terms_of l.ideal) hm.given.generators (λ g r. (hm.same g).0 r) f,
+    larger (terms_of l.ideal) hm.generators h.ideal.reduced.polys (λ g r. (hm.same g).1 r) f,
   )
 
   -- ---- the lifted polynomial
@@ -89,7 +88,7 @@ module _ (l : LiftedData) (m : Gens) (h : IsLifted l) (hm : HasModule l m) where
         (subst (λ x. IsGenerator m.prime m.variables x v) (sym hm.shift) (subst (λ x. IsGenerator m.prime x (degree_of d) v) (sym hm.variables) (subst (λ x. IsGenerator x n (degree_of d) v) (sym hm.prime) generator)))
 
     module _ (f r : List Term) (e : f ≡ homogenised_to (degree_of g + 1000) g) (rv : IsGradedVector m.prime m.variables r) (rd : (e : ℕ) → HasDegree m.shift e f → HasDegree m.shift e r)
-        (nf : IsNormalForm m.prime m.variables (term_lists m.vectors) f r) where
+        (nf : IsNormalForm m.prime m.variables (terms_of m.vectors) f r) where
       vector : IsGradedVector l.prime l.variables r
       vector = subst (λ x. IsGradedVector p x r) hm.variables (subst (λ x. IsGradedVector x m.variables r) hm.prime rv)
 
@@ -98,27 +97,27 @@ module _ (l : LiftedData) (m : Gens) (h : IsLifted l) (hm : HasModule l m) where
           subst (λ x. HasDegree x (degree_of g + 1000) r) hm.shift
           (rd (degree_of g + 1000) (subst (HasDegree m.shift (degree_of g + 1000)) (sym e) (subst (λ x. HasDegree x (degree_of g + 1000) v) (sym hm.shift) degree)))
 
-      reduced : IsReduced l.prime l.variables (degree_of l.denominator.terms) (term_lists m.vectors)
+      reduced : IsReduced l.prime l.variables (degree_of l.denominator.terms) (terms_of m.vectors)
       reduced =
-          subst (λ x. IsReduced p n x (term_lists m.vectors)) hm.shift
-          (subst (λ x. IsReduced p x m.shift (term_lists m.vectors)) hm.variables (subst (λ x. IsReduced x m.variables m.shift (term_lists m.vectors)) hm.prime hm.reduced))
+          subst (λ x. IsReduced p n x (terms_of m.vectors)) hm.shift
+          (subst (λ x. IsReduced p x m.shift (terms_of m.vectors)) hm.variables (subst (λ x. IsReduced x m.variables m.shift (terms_of m.vectors)) hm.prime hm.reduced))
 
-      lifting : IsLifting l.prime l.variables l.denominator.terms hm.generators (term_lists m.vectors) 1000 g r
+      lifting : IsLifting l.prime l.variables l.denominator.terms hm.generators (terms_of m.vectors) 1000 g r
       lifting =
           record {
             given = hm.given;
             basis = record { vectors = reduced.vectors; monic = reduced.monic; same = hm.span; all_leads = reduced.all_leads };
             low = hm.low;
             poly = hg;
-            normal = subst (λ w. IsNormalForm p n (term_lists m.vectors) w r) e
-                (subst (λ x. IsNormalForm p x (term_lists m.vectors) f r) hm.variables (subst (λ x. IsNormalForm x m.variables (term_lists m.vectors) f r) hm.prime nf));
+            normal = subst (λ w. IsNormalForm p n (terms_of m.vectors) w r) e
+                (subst (λ x. IsNormalForm p x (terms_of m.vectors) f r) hm.variables (subst (λ x. IsNormalForm x m.variables (terms_of m.vectors) f r) hm.prime nf));
             vector = vector;
             degree = degree_r;
           }
 
-      pub none : (first r ≡ []) ↔ InIdeal l.prime l.variables (l.denominator.terms ∷ term_lists l.ideal) g
+      pub none : (first r ≡ []) ↔ InIdeal l.prime l.variables (l.denominator.terms ∷ terms_of l.ideal) g
       none =
-          let k = lift_law.none p n d hm.generators (term_lists m.vectors) 1000 g r lifting in
+          let k = lift_law.none p n d hm.generators (terms_of m.vectors) 1000 g r lifting in
           (λ z. (same_sum g).0 (k.0 z), λ c. k.1 ((same_sum g).1 c))
 
       pub second_at : (q : ℕ) (w : List Term) → q ≡ l.prime → w ≡ second r → IsHomogeneousPoly q l.variables w
@@ -130,32 +129,32 @@ module _ (l : LiftedData) (m : Gens) (h : IsLifted l) (hm : HasModule l m) where
       lift u z a =
           let e = a ∙ canonical_same p (multiple p (p - 1) (dehomogenised p (second r))) (is_canonical p (multiple p (p - 1) (dehomogenised p (second r))) pos (normal_canon p (scaled (p - 1) (dehomogenised p (second r))))) in
           record {
-            poly = subst (IsPoly p n) (sym e) (lift_law.poly p n d hm.generators (term_lists m.vectors) 1000 g r lifting);
+            poly = subst (IsPoly p n) (sym e) (lift_law.poly p n d hm.generators (terms_of m.vectors) 1000 g r lifting);
             lifts = (hm.same (sub p g (mul p u d))).0
-                (subst (λ w. InIdeal p n hm.generators (sub p g (mul p w d))) (sym e) (lift_law.quotient p n d hm.generators (term_lists m.vectors) 1000 g r lifting z));
-            low = subst (λ w. w ≢ [] → degree_of w + degree_of d ≤ degree_of g + 1000) (sym e) (lift_law.low p n d hm.generators (term_lists m.vectors) 1000 g r lifting);
+                (subst (λ w. InIdeal p n hm.generators (sub p g (mul p w d))) (sym e) (lift_law.quotient p n d hm.generators (terms_of m.vectors) 1000 g r lifting z));
+            low = subst (λ w. w ≢ [] → degree_of w + degree_of d ≤ degree_of g + 1000) (sym e) (lift_law.low p n d hm.generators (terms_of m.vectors) 1000 g r lifting);
           }
 
 -- ---- regularity
 
 -- polynomials over one prime are equal where their terms are
-same_lists : (p n : ℕ) (a b : List Polynomial) → All (IsOver p n) a → All (IsOver p n) b → term_lists a ≡ term_lists b → a ≡ b
+same_lists : (p n : ℕ) (a b : List Polynomial) → All (IsOver p n) a → All (IsOver p n) b → terms_of a ≡ terms_of b → a ≡ b
 same_lists p n [] [] h k e = refl
 same_lists p n [] (g ∷ b) h k e = absurd (cc)
 same_lists p n (f ∷ a) [] h k e = absurd (cc)
 same_lists p n (f ∷ a) (g ∷ b) h k e =
     let one : f.terms ≡ g.terms = cc in
-    let rest : term_lists a ≡ term_lists b = cc in
+    let rest : terms_of a ≡ terms_of b = cc in
     let q = (All-head (IsOver p n) f a h).prime ∙ sym (All-head (IsOver p n) g b k).prime in
     λ i. record { prime = q i; terms = one i } ∷ same_lists p n a b (All-tail (IsOver p n) f a h) (All-tail (IsOver p n) g b k) rest i
 
-pub regular : (l : LiftedData) (m : Gens) (h : IsLifted l) (hm : HasModule l m) → (l.ideal ≡ l.colon) ↔ Regular l.prime l.variables (term_lists l.ideal) l.denominator.terms
+pub regular : (l : LiftedData) (m : Gens) (h : IsLifted l) (hm : HasModule l m) → (l.ideal ≡ l.colon) ↔ Regular l.prime l.variables (terms_of l.ideal) l.denominator.terms
 regular l m h hm =
     let k =
-    regular_law l.prime l.variables l.denominator.terms (term_lists l.ideal) (term_lists l.ideal) (term_lists l.colon)
+    regular_law l.prime l.variables l.denominator.terms (terms_of l.ideal) (terms_of l.ideal) (terms_of l.colon)
     (record { prime = h.prime; six = h.six_variables; denominator = h.denominator.poly; generators = h.ideal.reduced.polys }) h.ideal h.colon
     in
-    (λ e. k.1 (ap term_lists e), λ r. same_lists l.prime l.variables l.ideal l.colon h.ideal_over h.colon_over (k.0 r))
+    (λ e. k.1 (ap terms_of e), λ r. same_lists l.prime l.variables l.ideal l.colon h.ideal_over h.colon_over (k.0 r))
 
 -- ---- tests of leads
 
@@ -190,63 +189,63 @@ module _ (l : LiftedData) (h : IsLifted l) where
   positive : 0 < l.prime
   positive = let q = h.prime.0 in omega arith
 
-  to : (f : List Term) → InIdeal l.prime l.variables (term_lists l.sum) f → InIdeal l.prime l.variables (l.denominator.terms ∷ term_lists l.ideal) f
-  to f r = (h.sum.exact f (in_poly l.prime l.variables (term_lists l.sum) f positive h.sum.reduced.polys r)).0 r
+  to : (f : List Term) → InIdeal l.prime l.variables (terms_of l.sum) f → InIdeal l.prime l.variables (l.denominator.terms ∷ terms_of l.ideal) f
+  to f r = (h.sum.exact f (in_poly l.prime l.variables (terms_of l.sum) f positive h.sum.reduced.polys r)).0 r
 
-  back : (f : List Term) → InIdeal l.prime l.variables (l.denominator.terms ∷ term_lists l.ideal) f → InIdeal l.prime l.variables (term_lists l.sum) f
+  back : (f : List Term) → InIdeal l.prime l.variables (l.denominator.terms ∷ terms_of l.ideal) f → InIdeal l.prime l.variables (terms_of l.sum) f
   back f r =
       (h.sum.exact f
-      (in_poly l.prime l.variables (l.denominator.terms ∷ term_lists l.ideal) f positive
-      (All-cons (IsPoly l.prime l.variables) l.denominator.terms (term_lists l.ideal) h.denominator.poly h.ideal.reduced.polys) r)).1 r
+      (in_poly l.prime l.variables (l.denominator.terms ∷ terms_of l.ideal) f positive
+      (All-cons (IsPoly l.prime l.variables) l.denominator.terms (terms_of l.ideal) h.denominator.poly h.ideal.reduced.polys) r)).1 r
 
-  pub has_dim : (N : ℕ) → HasDim l.prime l.variables (term_lists l.sum) N ↔ HasDim l.prime l.variables (l.denominator.terms ∷ term_lists l.ideal) N
+  pub has_dim : (N : ℕ) → HasDim l.prime l.variables (terms_of l.sum) N ↔ HasDim l.prime l.variables (l.denominator.terms ∷ terms_of l.ideal) N
   has_dim N = (
-    dim l.prime l.variables (term_lists l.sum) (l.denominator.terms ∷ term_lists l.ideal) to back N,
-    dim l.prime l.variables (l.denominator.terms ∷ term_lists l.ideal) (term_lists l.sum) back to N,
+    dim l.prime l.variables (terms_of l.sum) (l.denominator.terms ∷ terms_of l.ideal) to back N,
+    dim l.prime l.variables (l.denominator.terms ∷ terms_of l.ideal) (terms_of l.sum) back to N,
   )
 
-  pub has_infinite_dim : HasInfiniteDim l.prime l.variables (term_lists l.sum) ↔ HasInfiniteDim l.prime l.variables (l.denominator.terms ∷ term_lists l.ideal)
+  pub has_infinite_dim : HasInfiniteDim l.prime l.variables (terms_of l.sum) ↔ HasInfiniteDim l.prime l.variables (l.denominator.terms ∷ terms_of l.ideal)
   has_infinite_dim = (
-    λ k us s. k us (spans l.prime l.variables (l.denominator.terms ∷ term_lists l.ideal) (term_lists l.sum) back us s),
-    λ k us s. k us (spans l.prime l.variables (term_lists l.sum) (l.denominator.terms ∷ term_lists l.ideal) to us s),
+    λ k us s. k us (spans l.prime l.variables (l.denominator.terms ∷ terms_of l.ideal) (terms_of l.sum) back us s),
+    λ k us s. k us (spans l.prime l.variables (terms_of l.sum) (l.denominator.terms ∷ terms_of l.ideal) to us s),
   )
 
   -- what the answer means, of the basis and of the ideal
   module _ (limit : ℕ) (a : Dimension) where
-    pub finite : ((N : ℕ) → (a ≡ Dimension.Finite N) ↔ ((N ≤ limit) × HasDim l.prime l.variables (term_lists l.sum) N))
-        → (N : ℕ) → (a ≡ Dimension.Finite N) ↔ ((N ≤ limit) × HasDim l.prime l.variables (l.denominator.terms ∷ term_lists l.ideal) N)
+    pub finite : ((N : ℕ) → (a ≡ Dimension.Finite N) ↔ ((N ≤ limit) × HasDim l.prime l.variables (terms_of l.sum) N))
+        → (N : ℕ) → (a ≡ Dimension.Finite N) ↔ ((N ≤ limit) × HasDim l.prime l.variables (l.denominator.terms ∷ terms_of l.ideal) N)
     finite k N = (λ e. (let x = (k N).0 e in (x.0, (has_dim N).0 x.1)), λ x. (k N).1 (x.0, (has_dim N).1 x.1))
 
-    pub wide : (a ≡ Dimension.Wide) ↔ HasDimAbove l.prime l.variables (term_lists l.sum) limit
-        → (a ≡ Dimension.Wide) ↔ ((N : ℕ) × (limit < N) × HasDim l.prime l.variables (l.denominator.terms ∷ term_lists l.ideal) N)
+    pub wide : (a ≡ Dimension.Wide) ↔ HasDimAbove l.prime l.variables (terms_of l.sum) limit
+        → (a ≡ Dimension.Wide) ↔ ((N : ℕ) × (limit < N) × HasDim l.prime l.variables (l.denominator.terms ∷ terms_of l.ideal) N)
     wide k = (λ e. (let x = k.0 e in (x.0, x.1, (has_dim x.0).0 x.2)), λ x. k.1 (x.0, x.1, (has_dim x.0).1 x.2))
 
-    pub infinite : (a ≡ Dimension.Infinite) ↔ HasInfiniteDim l.prime l.variables (term_lists l.sum)
-        → (a ≡ Dimension.Infinite) ↔ HasInfiniteDim l.prime l.variables (l.denominator.terms ∷ term_lists l.ideal)
+    pub infinite : (a ≡ Dimension.Infinite) ↔ HasInfiniteDim l.prime l.variables (terms_of l.sum)
+        → (a ≡ Dimension.Infinite) ↔ HasInfiniteDim l.prime l.variables (l.denominator.terms ∷ terms_of l.ideal)
     infinite k = (λ e. has_infinite_dim.0 (k.0 e), λ x. k.1 (has_infinite_dim.1 x))
 
   -- and of the answer of a call
   module _ (p n limit : ℕ) (basis : List Polynomial) (ep : p ≡ l.prime) (en : n ≡ l.variables) (eb : basis ≡ l.sum) {E : Type 0} (r : Result Dimension E) where
-    same : (P : ℕ → ℕ → List (List Term) → Dimension → Type 0) → IfOk r (P p n (term_lists basis)) → IfOk r (P l.prime l.variables (term_lists l.sum))
-    same P k = subst (λ w. IfOk r (P l.prime l.variables (term_lists w))) eb (subst (λ w. IfOk r (P l.prime w (term_lists basis))) en (subst (λ w. IfOk r (P w n (term_lists basis))) ep k))
+    same : (P : ℕ → ℕ → List (List Term) → Dimension → Type 0) → IfOk r (P p n (terms_of basis)) → IfOk r (P l.prime l.variables (terms_of l.sum))
+    same P k = subst (λ w. IfOk r (P l.prime l.variables (terms_of w))) eb (subst (λ w. IfOk r (P l.prime w (terms_of basis))) en (subst (λ w. IfOk r (P w n (terms_of basis))) ep k))
 
-    pub call_finite : IfOk r (λ a. (N : ℕ) → (a ≡ Dimension.Finite N) ↔ ((N ≤ limit) × HasDim p n (term_lists basis) N))
-        → IfOk r (λ a. (N : ℕ) → (a ≡ Dimension.Finite N) ↔ ((N ≤ limit) × HasDim l.prime l.variables (l.denominator.terms ∷ term_lists l.ideal) N))
+    pub call_finite : IfOk r (λ a. (N : ℕ) → (a ≡ Dimension.Finite N) ↔ ((N ≤ limit) × HasDim p n (terms_of basis) N))
+        → IfOk r (λ a. (N : ℕ) → (a ≡ Dimension.Finite N) ↔ ((N ≤ limit) × HasDim l.prime l.variables (l.denominator.terms ∷ terms_of l.ideal) N))
     call_finite k =
-        ok_more r (λ a. (N : ℕ) → (a ≡ Dimension.Finite N) ↔ ((N ≤ limit) × HasDim l.prime l.variables (term_lists l.sum) N))
-        (λ a. (N : ℕ) → (a ≡ Dimension.Finite N) ↔ ((N ≤ limit) × HasDim l.prime l.variables (l.denominator.terms ∷ term_lists l.ideal) N)) (λ a x. finite limit a x)
+        ok_more r (λ a. (N : ℕ) → (a ≡ Dimension.Finite N) ↔ ((N ≤ limit) × HasDim l.prime l.variables (terms_of l.sum) N))
+        (λ a. (N : ℕ) → (a ≡ Dimension.Finite N) ↔ ((N ≤ limit) × HasDim l.prime l.variables (l.denominator.terms ∷ terms_of l.ideal) N)) (λ a x. finite limit a x)
         (same (λ q m gs a. (N : ℕ) → (a ≡ Dimension.Finite N) ↔ ((N ≤ limit) × HasDim q m gs N)) k)
 
-    pub call_wide : IfOk r (λ a. (a ≡ Dimension.Wide) ↔ HasDimAbove p n (term_lists basis) limit)
-        → IfOk r (λ a. (a ≡ Dimension.Wide) ↔ ((N : ℕ) × (limit < N) × HasDim l.prime l.variables (l.denominator.terms ∷ term_lists l.ideal) N))
+    pub call_wide : IfOk r (λ a. (a ≡ Dimension.Wide) ↔ HasDimAbove p n (terms_of basis) limit)
+        → IfOk r (λ a. (a ≡ Dimension.Wide) ↔ ((N : ℕ) × (limit < N) × HasDim l.prime l.variables (l.denominator.terms ∷ terms_of l.ideal) N))
     call_wide k =
-        ok_more r (λ a. (a ≡ Dimension.Wide) ↔ HasDimAbove l.prime l.variables (term_lists l.sum) limit)
-        (λ a. (a ≡ Dimension.Wide) ↔ ((N : ℕ) × (limit < N) × HasDim l.prime l.variables (l.denominator.terms ∷ term_lists l.ideal) N)) (λ a x. wide limit a x)
+        ok_more r (λ a. (a ≡ Dimension.Wide) ↔ HasDimAbove l.prime l.variables (terms_of l.sum) limit)
+        (λ a. (a ≡ Dimension.Wide) ↔ ((N : ℕ) × (limit < N) × HasDim l.prime l.variables (l.denominator.terms ∷ terms_of l.ideal) N)) (λ a x. wide limit a x)
         (same (λ q m gs a. (a ≡ Dimension.Wide) ↔ HasDimAbove q m gs limit) k)
 
-    pub call_infinite : IfOk r (λ a. (a ≡ Dimension.Infinite) ↔ HasInfiniteDim p n (term_lists basis))
-        → IfOk r (λ a. (a ≡ Dimension.Infinite) ↔ HasInfiniteDim l.prime l.variables (l.denominator.terms ∷ term_lists l.ideal))
+    pub call_infinite : IfOk r (λ a. (a ≡ Dimension.Infinite) ↔ HasInfiniteDim p n (terms_of basis))
+        → IfOk r (λ a. (a ≡ Dimension.Infinite) ↔ HasInfiniteDim l.prime l.variables (l.denominator.terms ∷ terms_of l.ideal))
     call_infinite k =
-        ok_more r (λ a. (a ≡ Dimension.Infinite) ↔ HasInfiniteDim l.prime l.variables (term_lists l.sum))
-        (λ a. (a ≡ Dimension.Infinite) ↔ HasInfiniteDim l.prime l.variables (l.denominator.terms ∷ term_lists l.ideal)) (λ a x. infinite limit a x)
+        ok_more r (λ a. (a ≡ Dimension.Infinite) ↔ HasInfiniteDim l.prime l.variables (terms_of l.sum))
+        (λ a. (a ≡ Dimension.Infinite) ↔ HasInfiniteDim l.prime l.variables (l.denominator.terms ∷ terms_of l.ideal)) (λ a x. infinite limit a x)
         (same (λ q m gs a. (a ≡ Dimension.Infinite) ↔ HasInfiniteDim q m gs) k)

@@ -5,14 +5,14 @@ use Rattle.std.proofs.lemmas.List.{take_more, append-nil}
 use Rattle.std.specs.List.{All}
 use Rattle.std.proofs.lemmas.List.Elements.{All-nil, All-cons, All-head, All-tail}
 use Rattle.polys.specs.declared.term.Term.{Term}
-use Rattle.polys.specs.Poly.{Polynomial}
+use Rattle.polys.specs.Poly.{Polynomial, terms_of}
 use Rattle.graded_modules.specs.Vector.{lead_mono}
 use Rattle.homogenising.specs.Homogenised.{dehomogenised}
 use Rattle.homogenising.specs.Laws.{IsHomogeneousPoly}
 use Rattle.denominator_module.specs.Module.{first, second, sum_members, colon_members}
 use Rattle.denominator_module.proofs.Firsts.{first_generator}
 use Rattle.denominator_module.proofs.Seconds.{second_homogeneous}
-use Rattle.module_basis.specs.Gens.{IsHomogeneousOver, term_lists}
+use Rattle.module_basis.specs.Gens.{IsHomogeneousOver}
 
 -- ---- the members of joined lists
 
@@ -34,7 +34,7 @@ colon-append p (f ∷ a) b = go ((lead_mono f).component == 0) (colon-append p a
     go true ih = ih
     go false ih = λ i. dehomogenised p (second f) ∷ ih i
 
-lists-append : (a b : List Polynomial) → term_lists (a ++ b) ≡ term_lists a ++ term_lists b
+lists-append : (a b : List Polynomial) → terms_of (a ++ b) ≡ terms_of a ++ terms_of b
 lists-append [] b = refl
 lists-append (f ∷ a) b = λ i. f.terms ∷ lists-append a b i
 
@@ -42,16 +42,16 @@ all_append : (P : Polynomial → Type 0) (a : List Polynomial) (q : Polynomial) 
 all_append P [] q h k = All-cons P q [] k (All-nil P)
 all_append P (f ∷ a) q h k = All-cons P f (a ++ q ∷ []) (All-head P f a h) (all_append P a q (All-tail P f a h) k)
 
-next : (vs : List Polynomial) (i : ℕ) (v : Polynomial) → i < length vs → v ≡ get_or vs i v → term_lists (take (i + 1) vs) ≡ term_lists (take i vs) ++ v.terms ∷ []
-next vs i v h e = ap term_lists (take_more vs i v h ∙ (λ j. take i vs ++ sym e j ∷ [])) ∙ lists-append (take i vs) (v ∷ [])
+next : (vs : List Polynomial) (i : ℕ) (v : Polynomial) → i < length vs → v ≡ get_or vs i v → terms_of (take (i + 1) vs) ≡ terms_of (take i vs) ++ v.terms ∷ []
+next vs i v h e = ap terms_of (take_more vs i v h ∙ (λ j. take i vs ++ sym e j ∷ [])) ∙ lists-append (take i vs) (v ∷ [])
 
 -- ---- the parts gathered so far
 
 abbrev pub AreSums : ℕ → List Polynomial → List Polynomial → Type 0
-AreSums p ps vs = All (λ f. f.prime ≡ p) ps × (term_lists ps ≡ sum_members p (term_lists vs))
+AreSums p ps vs = All (λ f. f.prime ≡ p) ps × (terms_of ps ≡ sum_members p (terms_of vs))
 
 abbrev pub AreColons : ℕ → List Polynomial → List Polynomial → Type 0
-AreColons p ps vs = All (λ f. f.prime ≡ p) ps × (term_lists ps ≡ colon_members p (term_lists vs))
+AreColons p ps vs = All (λ f. f.prime ≡ p) ps × (terms_of ps ≡ colon_members p (terms_of vs))
 
 module _ (p : ℕ) (ps vs : List Polynomial) (i : ℕ) (v : Polynomial) (h : i < length vs) (e : v ≡ get_or vs i v) where
   pub sum_kept : (ws : List Polynomial) (q : Polynomial) → AreSums p ps (take i vs) → ((lead_mono v.terms).component ≡ 0) → q.prime ≡ p → q.terms ≡ dehomogenised p (first v.terms)
@@ -59,8 +59,8 @@ module _ (p : ℕ) (ps vs : List Polynomial) (i : ℕ) (v : Polynomial) (h : i <
   sum_kept ws q a z k t w =
       subst (λ x. AreSums p x (take (i + 1) vs)) (sym w) (
         all_append (λ f. f.prime ≡ p) ps q a.0 k,
-        lists-append ps (q ∷ []) ∙ (λ j. a.1 j ++ t j ∷ []) ∙ ap (λ x. sum_members p (term_lists (take i vs)) ++ x) (go ((lead_mono v.terms).component == 0) refl)
-            ∙ sym (ap (sum_members p) (next vs i v h e) ∙ sum-append p (term_lists (take i vs)) (v.terms ∷ [])),
+        lists-append ps (q ∷ []) ∙ (λ j. a.1 j ++ t j ∷ []) ∙ ap (λ x. sum_members p (terms_of (take i vs)) ++ x) (go ((lead_mono v.terms).component == 0) refl)
+            ∙ sym (ap (sum_members p) (next vs i v h e) ∙ sum-append p (terms_of (take i vs)) (v.terms ∷ [])),
       )
     where
       go : (k : Bool) → ((lead_mono v.terms).component == 0) ≡ k → dehomogenised p (first v.terms) ∷ [] ≡ cond k (dehomogenised p (first v.terms) ∷ []) []
@@ -70,8 +70,8 @@ module _ (p : ℕ) (ps vs : List Polynomial) (i : ℕ) (v : Polynomial) (h : i <
   pub sum_left : AreSums p ps (take i vs) → ((lead_mono v.terms).component ≡ 0 → ⊥) → AreSums p ps (take (i + 1) vs)
   sum_left a z = (
     a.0,
-    a.1 ∙ sym (ap (sum_members p) (next vs i v h e) ∙ sum-append p (term_lists (take i vs)) (v.terms ∷ [])
-        ∙ ap (λ x. sum_members p (term_lists (take i vs)) ++ x) (go ((lead_mono v.terms).component == 0) refl) ∙ append-nil (sum_members p (term_lists (take i vs)))),
+    a.1 ∙ sym (ap (sum_members p) (next vs i v h e) ∙ sum-append p (terms_of (take i vs)) (v.terms ∷ [])
+        ∙ ap (λ x. sum_members p (terms_of (take i vs)) ++ x) (go ((lead_mono v.terms).component == 0) refl) ∙ append-nil (sum_members p (terms_of (take i vs)))),
   )
     where
       go : (k : Bool) → ((lead_mono v.terms).component == 0) ≡ k → cond k (dehomogenised p (first v.terms) ∷ []) [] ≡ []
@@ -83,8 +83,8 @@ module _ (p : ℕ) (ps vs : List Polynomial) (i : ℕ) (v : Polynomial) (h : i <
   colon_kept ws q a z k t w =
       subst (λ x. AreColons p x (take (i + 1) vs)) (sym w) (
         all_append (λ f. f.prime ≡ p) ps q a.0 k,
-        lists-append ps (q ∷ []) ∙ (λ j. a.1 j ++ t j ∷ []) ∙ ap (λ x. colon_members p (term_lists (take i vs)) ++ x) (go ((lead_mono v.terms).component == 0) refl)
-            ∙ sym (ap (colon_members p) (next vs i v h e) ∙ colon-append p (term_lists (take i vs)) (v.terms ∷ [])),
+        lists-append ps (q ∷ []) ∙ (λ j. a.1 j ++ t j ∷ []) ∙ ap (λ x. colon_members p (terms_of (take i vs)) ++ x) (go ((lead_mono v.terms).component == 0) refl)
+            ∙ sym (ap (colon_members p) (next vs i v h e) ∙ colon-append p (terms_of (take i vs)) (v.terms ∷ [])),
       )
     where
       go : (k : Bool) → ((lead_mono v.terms).component == 0) ≡ k → dehomogenised p (second v.terms) ∷ [] ≡ cond k [] (dehomogenised p (second v.terms) ∷ [])
@@ -94,8 +94,8 @@ module _ (p : ℕ) (ps vs : List Polynomial) (i : ℕ) (v : Polynomial) (h : i <
   pub colon_left : AreColons p ps (take i vs) → ((lead_mono v.terms).component ≡ 0) → AreColons p ps (take (i + 1) vs)
   colon_left a z = (
     a.0,
-    a.1 ∙ sym (ap (colon_members p) (next vs i v h e) ∙ colon-append p (term_lists (take i vs)) (v.terms ∷ [])
-        ∙ ap (λ x. colon_members p (term_lists (take i vs)) ++ x) (go ((lead_mono v.terms).component == 0) refl) ∙ append-nil (colon_members p (term_lists (take i vs)))),
+    a.1 ∙ sym (ap (colon_members p) (next vs i v h e) ∙ colon-append p (terms_of (take i vs)) (v.terms ∷ [])
+        ∙ ap (λ x. colon_members p (terms_of (take i vs)) ++ x) (go ((lead_mono v.terms).component == 0) refl) ∙ append-nil (colon_members p (terms_of (take i vs)))),
   )
     where
       go : (k : Bool) → ((lead_mono v.terms).component == 0) ≡ k → cond k [] (dehomogenised p (second v.terms) ∷ []) ≡ []

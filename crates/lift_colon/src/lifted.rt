@@ -1,7 +1,7 @@
 // An ideal and a denominator with the bases that decide about them.
 ghost use Rattle.std.specs.Prelude.{◌≡◌, ℕ, ◌<◌, ◌≤◌, ◌+◌, ◌↔◌, ◌∷◌, All, IfOk, IfErr, IsTrue, IsNone, IfSome};
 ghost use Rattle.lift_colon.specs.Lifted.{IsLifted, IsDeepWith, IsLift};
-ghost use Rattle.module_basis.specs.Gens.{term_lists};
+ghost use Rattle.polys.specs.Poly.{terms_of};
 ghost use Rattle.module_basis.specs.declared.gens.BasisStop.TheVariants.{Deep};
 ghost use Rattle.denominator_module.specs.Module.{module_of, IsDeepDenominator};
 ghost use Rattle.graded_modules.specs.Bases.{SpanOneModule};
@@ -69,9 +69,9 @@ pub fn ideal_basis(
     requires some_cap { 1 ≤ cap }
     requires cap { cap ≤ 1000 }
     ensures over { IfOk result (λ fs. All (IsOver prime variables) fs) }
-    ensures basis { IfOk result (λ fs. IsReducedBasis prime variables (InIdeal prime variables (term_lists ideal.now)) (term_lists fs)) }
-    ensures not_deep { IfOk result (λ fs. IsDeep prime variables 0 (all_homogenised (term_lists ideal.now)) cap → ⊥) }
-    ensures deep { IfErr result (λ stop. stop ≡ Deep → IsDeep prime variables 0 (all_homogenised (term_lists ideal.now)) cap) }
+    ensures basis { IfOk result (λ fs. IsReducedBasis prime variables (InIdeal prime variables (terms_of ideal.now)) (terms_of fs)) }
+    ensures not_deep { IfOk result (λ fs. IsDeep prime variables 0 (all_homogenised (terms_of ideal.now)) cap → ⊥) }
+    ensures deep { IfErr result (λ stop. stop ≡ Deep → IsDeep prime variables 0 (all_homogenised (terms_of ideal.now)) cap) }
 {
     let _prime = prime.get();
     let gens = Gens::homogenised(alloc, prime, variables, ideal)?;
@@ -96,10 +96,10 @@ fn denominator_basis(
     requires some_cap { 1 ≤ cap }
     requires cap { cap ≤ 1000 }
     ensures ring { IfOk result (λ b. (b.prime ≡ prime) × (b.variables ≡ variables) × (b.shift ≡ degree_of d.now.terms)) }
-    ensures span { IfOk result (λ b. SpanOneModule prime variables (module_of d.now.terms (term_lists ideal.now)) (term_lists b.vectors)) }
-    ensures low { IfOk result (λ b. All (λ f. degree_at (degree_of d.now.terms) (lead_mono f) ≤ cap) (term_lists b.vectors)) }
-    ensures not_deep { IfOk result (λ b. IsDeepDenominator prime variables d.now.terms (term_lists ideal.now) cap → ⊥) }
-    ensures deep { IfErr result (λ stop. stop ≡ Deep → IsDeepDenominator prime variables d.now.terms (term_lists ideal.now) cap) }
+    ensures span { IfOk result (λ b. SpanOneModule prime variables (module_of d.now.terms (terms_of ideal.now)) (terms_of b.vectors)) }
+    ensures low { IfOk result (λ b. All (λ f. degree_at (degree_of d.now.terms) (lead_mono f) ≤ cap) (terms_of b.vectors)) }
+    ensures not_deep { IfOk result (λ b. IsDeepDenominator prime variables d.now.terms (terms_of ideal.now) cap → ⊥) }
+    ensures deep { IfErr result (λ stop. stop ≡ Deep → IsDeepDenominator prime variables d.now.terms (terms_of ideal.now) cap) }
 {
     let pairs = module_gens(alloc, prime, variables, ideal, d)?;
     graded_basis(alloc, &pairs, cap)
@@ -121,10 +121,10 @@ fn of_module(
     requires generators { All (IsOver prime variables) generators.now }
     requires denominator { IsOver prime variables d.now }
     requires over { All (IsOver prime variables) ideal }
-    requires ideal { IsReducedBasis prime variables (InIdeal prime variables (term_lists generators.now)) (term_lists ideal) }
+    requires ideal { IsReducedBasis prime variables (InIdeal prime variables (terms_of generators.now)) (terms_of ideal) }
     requires ring { (graded.prime ≡ prime) × (graded.variables ≡ variables) × (graded.shift ≡ degree_of d.now.terms) }
-    requires span { SpanOneModule prime variables (module_of d.now.terms (term_lists generators.now)) (term_lists graded.vectors) }
-    requires low { All (λ f. degree_at (degree_of d.now.terms) (lead_mono f) ≤ 1000) (term_lists graded.vectors) }
+    requires span { SpanOneModule prime variables (module_of d.now.terms (terms_of generators.now)) (terms_of graded.vectors) }
+    requires low { All (λ f. degree_at (degree_of d.now.terms) (lead_mono f) ≤ 1000) (terms_of graded.vectors) }
     ensures data { IfOk result (λ l. (l.prime ≡ prime) × (l.variables ≡ variables) × (l.denominator ≡ d.now) × (l.ideal ≡ ideal)) }
 {
     let vectors = graded.vectors();
@@ -164,7 +164,7 @@ impl Lifted {
         requires some_cap { 1 ≤ cap }
         requires cap { cap ≤ 1000 }
         ensures data { IfOk result (λ l. (l.prime ≡ prime) × (l.variables ≡ variables) × (l.denominator ≡ d.now)) }
-        ensures ideal { IfOk result (λ l. IsReducedBasis prime variables (InIdeal prime variables (term_lists ideal.now)) (term_lists l.ideal)) }
+        ensures ideal { IfOk result (λ l. IsReducedBasis prime variables (InIdeal prime variables (terms_of ideal.now)) (terms_of l.ideal)) }
         ensures not_deep { IfOk result (λ l. IsDeepWith prime variables ideal.now d.now cap → ⊥) }
         ensures deep { IfErr result (λ stop. stop ≡ Deep → IsDeepWith prime variables ideal.now d.now cap) }
     {
@@ -190,13 +190,13 @@ impl Lifted {
         requires six_variables { variables ≤ 6 }
         requires generators { All (IsOver prime variables) generators.now }
         requires over { All (IsOver prime variables) basis }
-        requires basis { IsReducedBasis prime variables (InIdeal prime variables (term_lists generators.now)) (term_lists basis) }
+        requires basis { IsReducedBasis prime variables (InIdeal prime variables (terms_of generators.now)) (terms_of basis) }
         requires denominator { IsOver prime variables d.now }
         requires some_cap { 1 ≤ cap }
         requires cap { cap ≤ 1000 }
         ensures data { IfOk result (λ l. (l.prime ≡ prime) × (l.variables ≡ variables) × (l.denominator ≡ d.now) × (l.ideal ≡ basis)) }
-        ensures not_deep { IfOk result (λ l. IsDeepDenominator prime variables d.now.terms (term_lists generators.now) cap → ⊥) }
-        ensures deep { IfErr result (λ stop. stop ≡ Deep → IsDeepDenominator prime variables d.now.terms (term_lists generators.now) cap) }
+        ensures not_deep { IfOk result (λ l. IsDeepDenominator prime variables d.now.terms (terms_of generators.now) cap → ⊥) }
+        ensures deep { IfErr result (λ stop. stop ≡ Deep → IsDeepDenominator prime variables d.now.terms (terms_of generators.now) cap) }
     {
         let _prime = prime.get();
         let _terms = d.terms();
@@ -261,7 +261,7 @@ impl Lifted {
         requires poly { IsPoly self.now.prime self.now.variables g.now.terms }
         requires room { degree_of g.now.terms ≤ 59000 }
         ensures some { IfOk result (λ u. IfSome u (λ u. (u.prime ≡ self.now.prime) × IsLift self.now g.now.terms u.terms)) }
-        ensures none { IfOk result (λ u. IsNone u ↔ (InIdeal self.now.prime self.now.variables (self.now.denominator.terms ∷ term_lists self.now.ideal) g.now.terms → ⊥)) }
+        ensures none { IfOk result (λ u. IsNone u ↔ (InIdeal self.now.prime self.now.variables (self.now.denominator.terms ∷ terms_of self.now.ideal) g.now.terms → ⊥)) }
     {
         let high = homogenised_to(alloc, self.variables, g.degree() + 1000, g)?;
         let rest = self.graded.normal_form(&high)?;
@@ -274,7 +274,7 @@ impl Lifted {
 
     /// Whether d is regular modulo I: whether the colon ideal I : d is I.
     pub fn is_regular(&self) -> Result<bool, NoMemory>
-        ensures { IfOk result (λ yes. IsTrue yes ↔ Regular self.now.prime self.now.variables (term_lists self.now.ideal) self.now.denominator.terms) }
+        ensures { IfOk result (λ yes. IsTrue yes ↔ Regular self.now.prime self.now.variables (terms_of self.now.ideal) self.now.denominator.terms) }
     {
         Ok(are_same(self.ideal.as_slice(), self.colon.as_slice()))
     }
@@ -283,9 +283,9 @@ impl Lifted {
     /// reduced basis of I + (d).
     pub fn dimension(&self, alloc: Global, limit: u32) -> Result<Dimension, NoMemory>
         requires { limit ≤ 60000 }
-        ensures finite { IfOk result (λ a. (N : ℕ) → (a ≡ Dimension.Finite N) ↔ ((N ≤ limit) × HasDim self.now.prime self.now.variables (self.now.denominator.terms ∷ term_lists self.now.ideal) N)) }
-        ensures wide { IfOk result (λ a. (a ≡ Dimension.Wide) ↔ ((N : ℕ) × (limit < N) × HasDim self.now.prime self.now.variables (self.now.denominator.terms ∷ term_lists self.now.ideal) N)) }
-        ensures infinite { IfOk result (λ a. (a ≡ Dimension.Infinite) ↔ HasInfiniteDim self.now.prime self.now.variables (self.now.denominator.terms ∷ term_lists self.now.ideal)) }
+        ensures finite { IfOk result (λ a. (N : ℕ) → (a ≡ Dimension.Finite N) ↔ ((N ≤ limit) × HasDim self.now.prime self.now.variables (self.now.denominator.terms ∷ terms_of self.now.ideal) N)) }
+        ensures wide { IfOk result (λ a. (a ≡ Dimension.Wide) ↔ ((N : ℕ) × (limit < N) × HasDim self.now.prime self.now.variables (self.now.denominator.terms ∷ terms_of self.now.ideal) N)) }
+        ensures infinite { IfOk result (λ a. (a ≡ Dimension.Infinite) ↔ HasInfiniteDim self.now.prime self.now.variables (self.now.denominator.terms ∷ terms_of self.now.ideal)) }
     {
         dimension_modulo(alloc, self.prime, self.variables, self.sum_basis(), limit)
     }

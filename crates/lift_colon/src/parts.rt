@@ -2,7 +2,8 @@
 ghost use Rattle.std.specs.Prelude.{◌≡◌, ◌≤◌, ◌↔◌, ℕ, All, IfOk, IsTrue};
 ghost use Rattle.denominator_module.specs.Module.{with_unit, module_of, sum_members, colon_members};
 ghost use Rattle.graded_modules.specs.Vector.{lead_mono};
-ghost use Rattle.module_basis.specs.Gens.{AreGens, IsHomogeneousOver, term_lists};
+ghost use Rattle.module_basis.specs.Gens.{AreGens, IsHomogeneousOver};
+ghost use Rattle.polys.specs.Poly.{terms_of};
 ghost use Rattle.polys.specs.Curve.{IsOver};
 ghost use Rattle.prime_field.specs.Primes.{IsPrime};
 ghost use Rattle.polys.specs.Terms.{degree_of};
@@ -51,7 +52,7 @@ pub fn module_gens(
     ensures prime { IfOk result (λ gens. gens.prime ≡ prime) }
     ensures variables { IfOk result (λ gens. gens.variables ≡ variables) }
     ensures shift { IfOk result (λ gens. gens.shift ≡ degree_of d.now.terms) }
-    ensures vectors { IfOk result (λ gens. term_lists gens.vectors ≡ module_of d.now.terms (term_lists ideal.now)) }
+    ensures vectors { IfOk result (λ gens. terms_of gens.vectors ≡ module_of d.now.terms (terms_of ideal.now)) }
     ensures gens { IfOk result (λ gens. AreGens gens) }
 {
     let gens = Gens::homogenised(alloc, prime, variables, ideal)?;
@@ -78,7 +79,7 @@ pub fn sum_part(
     requires six_variables { variables ≤ 6 }
     requires vectors { (shift : ℕ) × All (IsHomogeneousOver prime variables shift) vectors.now }
     ensures primes { IfOk result (λ v. All (λ f. f.prime ≡ prime) v) }
-    ensures terms { IfOk result (λ v. term_lists v ≡ sum_members prime (term_lists vectors.now)) }
+    ensures terms { IfOk result (λ v. terms_of v ≡ sum_members prime (terms_of vectors.now)) }
 {
     let mut parts = List::new(alloc);
     for v in vectors {
@@ -100,7 +101,7 @@ pub fn colon_part(
     requires six_variables { variables ≤ 6 }
     requires vectors { (shift : ℕ) × All (IsHomogeneousOver prime variables shift) vectors.now }
     ensures primes { IfOk result (λ v. All (λ f. f.prime ≡ prime) v) }
-    ensures terms { IfOk result (λ v. term_lists v ≡ colon_members prime (term_lists vectors.now)) }
+    ensures terms { IfOk result (λ v. terms_of v ≡ colon_members prime (terms_of vectors.now)) }
 {
     let mut parts = List::new(alloc);
     for v in vectors {

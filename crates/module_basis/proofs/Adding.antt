@@ -6,7 +6,7 @@ use Rattle.std.proofs.Math.Seq.{get_or-append_seam}
 use Rattle.std.proofs.lemmas.List.Elements.{All-push, All-nil, All-cons, All-append, All-weaker, Contains-append_left, Contains-append_right, Contains-append_cases, Contains-get_or}
 use Rattle.prime_field.specs.Primes.{IsPrime}
 use Rattle.polys.specs.declared.term.Term.{Term}
-use Rattle.polys.specs.Poly.{Polynomial, IsVector}
+use Rattle.polys.specs.Poly.{Polynomial, IsVector, terms_of}
 use Rattle.polys.specs.Terms.{EachMono, IsMonic, IsMonicOf}
 use Rattle.graded_modules.specs.Vector.{HasDegree, degree_at, lead_mono}
 use Rattle.graded_modules.specs.Module.{InModule, IsLeadMultiple}
@@ -15,43 +15,45 @@ use Rattle.graded_modules.specs.Laws.{ArePaired}
 use Rattle.graded_modules.proofs.Members.{in_generator, in_larger}
 use Rattle.graded_modules.proofs.SVectors.{same_degrees, s_vector_law}
 use Rattle.prime_field.proofs.Table.{positive_of_prime as positive, above_one}
-use Rattle.module_basis.specs.Gens.{IsHomogeneousOver, term_lists}
-use Rattle.module_basis.specs.Division.{Reduces}
+use Rattle.module_basis.specs.Gens.{IsHomogeneousOver}
+use Rattle.module_division.specs.Vectors.{member}
+use Rattle.module_division.specs.Division.{Reduces}
 use Rattle.module_basis.specs.declared.gens.Gens.{Gens}
 use Rattle.module_basis.specs.declared.growing.Growing.{Growing}
 use Rattle.module_basis.specs.declared.pairs.Pair.{Pair}
-use Rattle.module_basis.specs.Growing.{member, pair_of, AreOfOneComponent, IsPair, IsSettledPair, IsAwaited, AreAwaited, IsGrown, IsGrowing, GainsPairs, Gains, IsMemberAt, IsNewAt, IsBelowAll}
-use Rattle.module_basis.proofs.Pairing.{count_lists, paired}
-use Rattle.module_basis.proofs.Growth.{lists_append, member_left, contains_more, grown_new, pair_more, awaited_more, one_component_back, divisors, divisor_vectors, program_vector, nothing_in, nothing_below, new_is, new_in, new_below, generators_new}
+use Rattle.module_basis.specs.Growing.{pair_of, AreOfOneComponent, IsPair, IsSettledPair, IsAwaited, AreAwaited, IsGrown, IsGrowing, GainsPairs, Gains, IsMemberAt, IsNewAt, IsBelowAll}
+use Rattle.module_basis.proofs.Pairing.{paired}
+use Rattle.module_division.proofs.Lists.{count_lists, lists_append, member_left, contains_more, divisor_vectors}
+use Rattle.module_basis.proofs.Growth.{grown_new, pair_more, awaited_more, one_component_back, divisors, program_vector, nothing_in, nothing_below, new_is, new_in, new_below, generators_new}
 use Rattle.module_basis.proofs.Joining.{awaited_pairs}
 
 -- ---- one vector is put at the end
 
-module _ (gens : Gens) (e : ℕ) (prime : IsPrime gens.prime) (old new : Growing) (b : Polynomial) (growing : IsGrowing gens e old) (fresh : IsNewAt gens e (term_lists old.basis.items) b)
+module _ (gens : Gens) (e : ℕ) (prime : IsPrime gens.prime) (old new : Growing) (b : Polynomial) (growing : IsGrowing gens e old) (fresh : IsNewAt gens e (terms_of old.basis.items) b)
     (vectors : new.basis.items ≡ old.basis.items ++ b ∷ []) where
-  pushed_lists : term_lists new.basis.items ≡ term_lists old.basis.items ++ b.terms ∷ []
-  pushed_lists = ap term_lists vectors ∙ lists_append old.basis.items (b ∷ [])
+  pushed_lists : terms_of new.basis.items ≡ terms_of old.basis.items ++ b.terms ∷ []
+  pushed_lists = ap terms_of vectors ∙ lists_append old.basis.items (b ∷ [])
 
   pub pushed_growing : new.pairs.items ≡ old.pairs.items → IsGrowing gens e new
   pushed_growing p = record {
     primes = subst (All (λ f. f.prime ≡ gens.prime)) (sym vectors) (All-push (λ f. f.prime ≡ gens.prime) old.basis.items b growing.primes fresh.prime);
-    grown = subst (IsGrown gens e) (sym pushed_lists) (grown_new gens e prime (term_lists old.basis.items) growing.grown b fresh);
+    grown = subst (IsGrown gens e) (sym pushed_lists) (grown_new gens e prime (terms_of old.basis.items) growing.grown b fresh);
     pairs =
-        subst (All (IsPair gens.shift (term_lists new.basis.items))) (sym p)
-        (All-weaker (IsPair gens.shift (term_lists old.basis.items)) (IsPair gens.shift (term_lists new.basis.items))
-        (λ q h. pair_more gens (term_lists old.basis.items) (term_lists new.basis.items) (b.terms ∷ []) q pushed_lists h) old.pairs.items growing.pairs);
+        subst (All (IsPair gens.shift (terms_of new.basis.items))) (sym p)
+        (All-weaker (IsPair gens.shift (terms_of old.basis.items)) (IsPair gens.shift (terms_of new.basis.items))
+        (λ q h. pair_more gens (terms_of old.basis.items) (terms_of new.basis.items) (b.terms ∷ []) q pushed_lists h) old.pairs.items growing.pairs);
   }
 
   pushed_count : length new.basis.items ≡ length old.basis.items + 1
   pushed_count = ap length vectors ∙ length-append old.basis.items (b ∷ [])
 
-  pub pushed_last : (k : ℕ) → k + 1 ≡ length new.basis.items → degree_at gens.shift (lead_mono (member (term_lists new.basis.items) k)) ≡ e
+  pub pushed_last : (k : ℕ) → k + 1 ≡ length new.basis.items → degree_at gens.shift (lead_mono (member (terms_of new.basis.items) k)) ≡ e
   pushed_last k h =
       let n = pushed_count in
       let m = count_lists old.basis.items in
-      let q : k ≡ length (term_lists old.basis.items) = omega arith in
-      let at : member (term_lists new.basis.items) k ≡ b.terms =
-      (λ i. member (pushed_lists i) (q i)) ∙ get_or-append_seam (term_lists old.basis.items) b.terms [] [] in
+      let q : k ≡ length (terms_of old.basis.items) = omega arith in
+      let at : member (terms_of new.basis.items) k ≡ b.terms =
+      (λ i. member (pushed_lists i) (q i)) ∙ get_or-append_seam (terms_of old.basis.items) b.terms [] [] in
       subst (λ f. degree_at gens.shift (lead_mono f) ≡ e) (sym at) (go b.terms fresh.monic fresh.member.degree)
     where
       go : (f : List Term) → IsMonic f → HasDegree gens.shift e f → degree_at gens.shift (lead_mono f) ≡ e
@@ -60,7 +62,7 @@ module _ (gens : Gens) (e : ℕ) (prime : IsPrime gens.prime) (old new : Growing
 
   -- after the pairs with the new vector were formed
   pub pushed_gains : (last : Growing) → new.cap ≡ old.cap → new.pairs.items ≡ old.pairs.items → GainsPairs e new last
-      → ((i k : ℕ) → k + 1 ≡ length new.basis.items → i < k → AreOfOneComponent (term_lists new.basis.items) i k → IsAwaited gens new.cap (term_lists new.basis.items) last.pairs.items i k)
+      → ((i k : ℕ) → k + 1 ≡ length new.basis.items → i < k → AreOfOneComponent (terms_of new.basis.items) i k → IsAwaited gens new.cap (terms_of new.basis.items) last.pairs.items i k)
       → Gains gens e old last
   pushed_gains last cap pairs gains here = record {
     cap = gains.cap ∙ cap;
@@ -69,11 +71,11 @@ module _ (gens : Gens) (e : ℕ) (prime : IsPrime gens.prime) (old new : Growing
     more_pairs = gains.more;
     pairs = gains.pairs ∙ ap (λ l. l ++ gains.more) pairs;
     late = gains.late;
-    awaited = λ ps h. subst (λ fs. AreAwaited gens old.cap (term_lists fs) (last.pairs.items ++ ps) (length fs)) (sym gains.vectors) (each ps h);
+    awaited = λ ps h. subst (λ fs. AreAwaited gens old.cap (terms_of fs) (last.pairs.items ++ ps) (length fs)) (sym gains.vectors) (each ps h);
   }
     where
-      each : (ps : List Pair) → AreAwaited gens old.cap (term_lists old.basis.items) (old.pairs.items ++ ps) (length old.basis.items)
-          → AreAwaited gens old.cap (term_lists new.basis.items) (last.pairs.items ++ ps) (length new.basis.items)
+      each : (ps : List Pair) → AreAwaited gens old.cap (terms_of old.basis.items) (old.pairs.items ++ ps) (length old.basis.items)
+          → AreAwaited gens old.cap (terms_of new.basis.items) (last.pairs.items ++ ps) (length new.basis.items)
       each ps h i j rising inside one =
           let n = pushed_count in
           go (eq-or-lt_of_le (j_le i j rising inside n))
@@ -87,16 +89,16 @@ module _ (gens : Gens) (e : ℕ) (prime : IsPrime gens.prime) (old new : Growing
             | inr y ↦ Contains-append_right last.pairs.items ps q y
           ]
 
-          go : (j ≡ length old.basis.items) ⊎ (j < length old.basis.items) → IsAwaited gens old.cap (term_lists new.basis.items) (last.pairs.items ++ ps) i j
+          go : (j ≡ length old.basis.items) ⊎ (j < length old.basis.items) → IsAwaited gens old.cap (terms_of new.basis.items) (last.pairs.items ++ ps) i j
           go (inl q) =
               let n = pushed_count in
-              awaited_pairs gens old.cap (term_lists new.basis.items) last.pairs.items (last.pairs.items ++ ps) i j (λ q c. Contains-append_left last.pairs.items ps q c)
-              (subst (λ c. IsAwaited gens c (term_lists new.basis.items) last.pairs.items i j) cap (here i j (omega arith) rising one))
+              awaited_pairs gens old.cap (terms_of new.basis.items) last.pairs.items (last.pairs.items ++ ps) i j (λ q c. Contains-append_left last.pairs.items ps q c)
+              (subst (λ c. IsAwaited gens c (terms_of new.basis.items) last.pairs.items i j) cap (here i j (omega arith) rising one))
           go (inr l) =
               let m = count_lists old.basis.items in
-              awaited_more gens old.cap (term_lists old.basis.items) (term_lists new.basis.items) (b.terms ∷ []) (old.pairs.items ++ ps) (last.pairs.items ++ ps) i j pushed_lists
+              awaited_more gens old.cap (terms_of old.basis.items) (terms_of new.basis.items) (b.terms ∷ []) (old.pairs.items ++ ps) (last.pairs.items ++ ps) i j pushed_lists
               (omega arith) (omega arith) kept
-              (h i j rising l (one_component_back gens (term_lists old.basis.items) (term_lists new.basis.items) (b.terms ∷ []) i j pushed_lists (omega arith) (omega arith) one))
+              (h i j rising l (one_component_back gens (terms_of old.basis.items) (terms_of new.basis.items) (b.terms ∷ []) i j pushed_lists (omega arith) (omega arith) one))
 
 -- where nothing was added
 pub nothing_gained : (gens : Gens) (e : ℕ) (g : Growing) → Gains gens e g g
@@ -118,89 +120,89 @@ gained_twice gens e a b c x y = record {
   more_pairs = x.more_pairs ++ y.more_pairs;
   pairs = y.pairs ∙ ap (λ l. l ++ y.more_pairs) x.pairs ∙ append_assoc a.pairs.items x.more_pairs y.more_pairs;
   late = All-append (λ q. e < q.degree) x.more_pairs y.more_pairs x.late y.late;
-  awaited = λ ps h. subst (λ k. AreAwaited gens k (term_lists c.basis.items) (c.pairs.items ++ ps) (length c.basis.items)) x.cap
-      (y.awaited ps (subst (λ k. AreAwaited gens k (term_lists b.basis.items) (b.pairs.items ++ ps) (length b.basis.items)) (sym x.cap) (x.awaited ps h)));
+  awaited = λ ps h. subst (λ k. AreAwaited gens k (terms_of c.basis.items) (c.pairs.items ++ ps) (length c.basis.items)) x.cap
+      (y.awaited ps (subst (λ k. AreAwaited gens k (terms_of b.basis.items) (b.pairs.items ++ ps) (length b.basis.items)) (sym x.cap) (x.awaited ps h)));
 }
 
 -- a member stays one
-pub in_still : (gens : Gens) (e : ℕ) (fs gs more : List Polynomial) (f : List Term) → IsPrime gens.prime → gs ≡ fs ++ more → IsGrown gens e (term_lists gs)
-    → InModule gens.prime gens.variables (term_lists fs) f → InModule gens.prime gens.variables (term_lists gs) f
+pub in_still : (gens : Gens) (e : ℕ) (fs gs more : List Polynomial) (f : List Term) → IsPrime gens.prime → gs ≡ fs ++ more → IsGrown gens e (terms_of gs)
+    → InModule gens.prime gens.variables (terms_of fs) f → InModule gens.prime gens.variables (terms_of gs) f
 in_still gens e fs gs more f prime q grown h =
-    in_larger gens.prime gens.variables (term_lists fs) (term_lists gs) f (positive gens.prime prime)
-    (λ k d i. in_generator gens.prime gens.variables (term_lists gs) (get_or (term_lists fs) k d) (above_one gens.prime prime) (λ k d i. (grown.below.vectors k d i).vector)
-    (contains_more fs gs more q (get_or (term_lists fs) k d) (Contains-get_or (term_lists fs) k d i))) h
+    in_larger gens.prime gens.variables (terms_of fs) (terms_of gs) f (positive gens.prime prime)
+    (λ k d i. in_generator gens.prime gens.variables (terms_of gs) (get_or (terms_of fs) k d) (above_one gens.prime prime) (λ k d i. (grown.below.vectors k d i).vector)
+    (contains_more fs gs more q (get_or (terms_of fs) k d) (Contains-get_or (terms_of fs) k d i))) h
 
 -- ---- what is left of a vector was added
 
 pub record AddsRest (gens : Gens) (e : ℕ) (g : Growing) (v : List Term) (b : Polynomial) : Type 0 where
-  pub fresh : IsNewAt gens e (term_lists g.basis.items) b
-  pub member : (next : List Polynomial) → next ≡ g.basis.items ++ b ∷ [] → InModule gens.prime gens.variables (term_lists next) v
-  pub below : (next : List Polynomial) → next ≡ g.basis.items ++ b ∷ [] → IsBelowAll gens e (term_lists next) v
+  pub fresh : IsNewAt gens e (terms_of g.basis.items) b
+  pub member : (next : List Polynomial) → next ≡ g.basis.items ++ b ∷ [] → InModule gens.prime gens.variables (terms_of next) v
+  pub below : (next : List Polynomial) → next ≡ g.basis.items ++ b ∷ [] → IsBelowAll gens e (terms_of next) v
 
 pub adds_rest : (gens : Gens) (e : ℕ) → e ≤ 1000 → IsPrime gens.prime → (g : Growing) → IsGrowing gens e g → (v r : List Term) → IsMemberAt gens e v
-    → Reduces gens.prime (term_lists g.basis.items) v r → IsVector gens.prime r → EachMono (λ m. IsLeadMultiple (term_lists g.basis.items) m → ⊥) r
+    → Reduces gens.prime (terms_of g.basis.items) v r → IsVector gens.prime r → EachMono (λ m. IsLeadMultiple (terms_of g.basis.items) m → ⊥) r
     → (b : Polynomial) → b.prime ≡ gens.prime → r ≢ [] → IsMonicOf gens.prime r b.terms → AddsRest gens e g v b
 adds_rest gens e low prime g growing v r at d known outside b q some monic =
-    let bs = term_lists g.basis.items in
+    let bs = terms_of g.basis.items in
     let vectors = divisor_vectors gens.prime g.basis.items (divisors gens e g low growing) in
     let fresh = new_is gens e low prime bs growing.grown vectors v r at d known b q some monic outside in
     record {
       fresh = fresh;
-      member = λ next eq. subst (λ l. InModule gens.prime gens.variables l v) (sym (ap term_lists eq ∙ lists_append g.basis.items (b ∷ [])))
+      member = λ next eq. subst (λ l. InModule gens.prime gens.variables l v) (sym (ap terms_of eq ∙ lists_append g.basis.items (b ∷ [])))
           (new_in gens e low prime bs growing.grown vectors v r at d known b q some monic (generators_new gens e prime bs growing.grown b fresh));
-      below = λ next eq. subst (λ l. IsBelowAll gens e l v) (sym (ap term_lists eq ∙ lists_append g.basis.items (b ∷ [])))
+      below = λ next eq. subst (λ l. IsBelowAll gens e l v) (sym (ap terms_of eq ∙ lists_append g.basis.items (b ∷ [])))
           (new_below gens e low prime bs growing.grown vectors v r at d known b q some monic);
     }
 
 pub keeps_all : (gens : Gens) (e : ℕ) → e ≤ 1000 → IsPrime gens.prime → (g : Growing) → IsGrowing gens e g → (v r : List Term) → IsMemberAt gens e v
-    → Reduces gens.prime (term_lists g.basis.items) v r → IsVector gens.prime r → r ≡ []
-    → InModule gens.prime gens.variables (term_lists g.basis.items) v × IsBelowAll gens e (term_lists g.basis.items) v
+    → Reduces gens.prime (terms_of g.basis.items) v r → IsVector gens.prime r → r ≡ []
+    → InModule gens.prime gens.variables (terms_of g.basis.items) v × IsBelowAll gens e (terms_of g.basis.items) v
 keeps_all gens e low prime g growing v r at d known z =
     let vectors = divisor_vectors gens.prime g.basis.items (divisors gens e g low growing) in (
-      nothing_in gens e low prime (term_lists g.basis.items) growing.grown vectors v r at d known z,
-      nothing_below gens e low prime (term_lists g.basis.items) growing.grown vectors v r at d known z,
+      nothing_in gens e low prime (terms_of g.basis.items) growing.grown vectors v r at d known z,
+      nothing_below gens e low prime (terms_of g.basis.items) growing.grown vectors v r at d known z,
     )
 
 -- ---- the S-vector of a pair
 
 module _ (gens : Gens) (e : ℕ) (low : e ≤ 1000) (prime : IsPrime gens.prime) (g : Growing) (growing : IsGrowing gens e g) (q : Pair)
-    (pair : IsPair gens.shift (term_lists g.basis.items) q) (degree : q.degree ≡ e) where
+    (pair : IsPair gens.shift (terms_of g.basis.items) q) (degree : q.degree ≡ e) where
   bs_of : List (List Term)
-  bs_of = term_lists g.basis.items
+  bs_of = terms_of g.basis.items
 
-  pair_first : q.first < length (term_lists g.basis.items)
+  pair_first : q.first < length (terms_of g.basis.items)
   pair_first = let r = pair.rising in let i = pair.inside in omega arith
 
-  pub s_paired : ArePaired gens.prime gens.variables gens.shift (member (term_lists g.basis.items) q.first) (member (term_lists g.basis.items) q.second)
-  s_paired = paired gens.prime gens.variables gens.shift prime (term_lists gens.vectors) (term_lists g.basis.items) e growing.grown.below q.first q.second pair_first pair.inside pair.one_component
+  pub s_paired : ArePaired gens.prime gens.variables gens.shift (member (terms_of g.basis.items) q.first) (member (terms_of g.basis.items) q.second)
+  s_paired = paired gens.prime gens.variables gens.shift prime (terms_of gens.vectors) (terms_of g.basis.items) e growing.grown.below q.first q.second pair_first pair.inside pair.one_component
 
-  pub s_member : IsMemberAt gens e (s_vector gens.prime (member (term_lists g.basis.items) q.first) (member (term_lists g.basis.items) q.second))
+  pub s_member : IsMemberAt gens e (s_vector gens.prime (member (terms_of g.basis.items) q.first) (member (terms_of g.basis.items) q.second))
   s_member =
       let p = gens.prime in
       let n = gens.variables in
-      let f = member (term_lists g.basis.items) q.first in
-      let h = member (term_lists g.basis.items) q.second in
+      let f = member (terms_of g.basis.items) q.first in
+      let h = member (terms_of g.basis.items) q.second in
       let graded = s_vector_law.vector p n gens.shift f h s_paired in
       let deg = subst (λ k. HasDegree gens.shift k (s_vector p f h)) (sym pair.degree ∙ degree) (s_vector_law.degree p n gens.shift f h s_paired) in
       record {
         vector = program_vector p n gens.shift e (s_vector p f h) graded deg (omega arith);
         graded = graded;
         degree = deg;
-        member = s_vector_law.member p n gens.shift (term_lists gens.vectors) f h s_paired
+        member = s_vector_law.member p n gens.shift (terms_of gens.vectors) f h s_paired
             (growing.grown.below.members q.first [] pair_first) (growing.grown.below.members q.second [] pair.inside);
       }
 
   pub s_settled : (next more : List Polynomial) → next ≡ g.basis.items ++ more
-      → IsBelowAll gens e (term_lists next) (s_vector gens.prime (member (term_lists g.basis.items) q.first) (member (term_lists g.basis.items) q.second))
-      → IsSettledPair gens (term_lists next) q.first q.second
+      → IsBelowAll gens e (terms_of next) (s_vector gens.prime (member (terms_of g.basis.items) q.first) (member (terms_of g.basis.items) q.second))
+      → IsSettledPair gens (terms_of next) q.first q.second
   s_settled next more eq below =
       let p = gens.prime in
       let n = gens.variables in
-      let bs = term_lists g.basis.items in
-      let cs = term_lists next in
-      let e' = ap term_lists eq ∙ lists_append g.basis.items more in
-      let mi : member bs q.first ≡ member cs q.first = sym (ap (λ l. member l q.first) e' ∙ member_left bs (term_lists more) q.first pair_first) in
-      let mj : member bs q.second ≡ member cs q.second = sym (ap (λ l. member l q.second) e' ∙ member_left bs (term_lists more) q.second pair.inside) in
+      let bs = terms_of g.basis.items in
+      let cs = terms_of next in
+      let e' = ap terms_of eq ∙ lists_append g.basis.items more in
+      let mi : member bs q.first ≡ member cs q.first = sym (ap (λ l. member l q.first) e' ∙ member_left bs (terms_of more) q.first pair_first) in
+      let mj : member bs q.second ≡ member cs q.second = sym (ap (λ l. member l q.second) e' ∙ member_left bs (terms_of more) q.second pair.inside) in
       subst (λ x. IsSettled p n gens.shift cs (member cs q.first) x) mj
       (subst (λ x. IsSettled p n gens.shift cs x (member bs q.second)) mi
       (below (lead_lcm (member bs q.first) (member bs q.second)) (sym pair.degree ∙ degree) (s_vector_law.below p n gens.shift (member bs q.first) (member bs q.second) s_paired)))
@@ -215,8 +217,8 @@ waits_on gens e old new q c v p l = record {
   more_pairs = q ∷ [];
   pairs = p;
   late = All-cons (λ q. e < q.degree) q [] l (All-nil (λ q. e < q.degree));
-  awaited = λ ps h. subst (λ fs. AreAwaited gens old.cap (term_lists fs) (new.pairs.items ++ ps) (length fs)) (sym v)
-      (λ i j r k one. awaited_pairs gens old.cap (term_lists old.basis.items) (old.pairs.items ++ ps) (new.pairs.items ++ ps) i j (kept ps) (h i j r k one));
+  awaited = λ ps h. subst (λ fs. AreAwaited gens old.cap (terms_of fs) (new.pairs.items ++ ps) (length fs)) (sym v)
+      (λ i j r k one. awaited_pairs gens old.cap (terms_of old.basis.items) (old.pairs.items ++ ps) (new.pairs.items ++ ps) i j (kept ps) (h i j r k one));
 }
   where
     kept : (ps : List Pair) (x : Pair) → Contains (old.pairs.items ++ ps) x → Contains (new.pairs.items ++ ps) x
@@ -227,7 +229,7 @@ waits_on gens e old new q c v p l = record {
 
 -- a homogeneous vector of the generators
 pub generator_at : (gens : Gens) (e : ℕ) (v : Polynomial) → e ≤ 1000 → IsHomogeneousOver gens.prime gens.variables gens.shift v → degree_at gens.shift (lead_mono v.terms) ≡ e
-    → InModule gens.prime gens.variables (term_lists gens.vectors) v.terms → IsMemberAt gens e v.terms
+    → InModule gens.prime gens.variables (terms_of gens.vectors) v.terms → IsMemberAt gens e v.terms
 generator_at gens e v low h q i =
     let d = subst (λ k. HasDegree gens.shift k v.terms) q (same_degrees gens.prime gens.variables gens.shift v.terms h.vector) in
     record { vector = program_vector gens.prime gens.variables gens.shift e v.terms h.vector.vector d (omega arith); graded = h.vector.vector; degree = d; member = i }

@@ -6,20 +6,21 @@ use Rattle.std.proofs.lemmas.List.{get_or_default, get_or-map}
 use Rattle.std.proofs.lemmas.List.Elements.{All-append, All-weaker, All-contains, Contains-get_or}
 use Rattle.prime_field.specs.Primes.{IsPrime}
 use Rattle.polys.specs.declared.term.Term.{Term}
-use Rattle.polys.specs.Poly.{Polynomial}
+use Rattle.polys.specs.Poly.{Polynomial, terms_of}
 use Rattle.graded_modules.specs.Vector.{degree_at, lead_mono}
 use Rattle.graded_modules.specs.Module.{InModule}
 use Rattle.graded_modules.specs.SVector.{IsSettled, lead_lcm}
 use Rattle.graded_modules.specs.Bases.{IsBasisBelow}
 use Rattle.graded_modules.proofs.Members.{in_generator, in_larger}
 use Rattle.prime_field.proofs.Table.{positive_of_prime as positive, above_one}
-use Rattle.module_basis.specs.Gens.{AreGens, term_lists}
+use Rattle.module_basis.specs.Gens.{AreGens}
+use Rattle.module_division.specs.Vectors.{member}
 use Rattle.module_basis.specs.declared.gens.Gens.{Gens}
 use Rattle.module_basis.specs.declared.growing.Growing.{Growing}
 use Rattle.module_basis.specs.declared.pairs.Pair.{Pair}
-use Rattle.module_basis.specs.Growing.{member, pair_degree, pair_of, AreOfOneComponent, IsPair, AreAwaited, IsGrowing, IsReady, Gains}
-use Rattle.module_basis.proofs.Pairing.{count_lists}
-use Rattle.module_basis.proofs.Growth.{lists_append, pair_more}
+use Rattle.module_basis.specs.Growing.{pair_degree, pair_of, AreOfOneComponent, IsPair, AreAwaited, IsGrowing, IsReady, Gains}
+use Rattle.module_division.proofs.Lists.{count_lists, lists_append}
+use Rattle.module_basis.proofs.Growth.{pair_more}
 use Rattle.module_basis.proofs.Joining.{all_generators}
 use Rattle.module_basis.proofs.Adding.{gone_through}
 
@@ -30,11 +31,11 @@ pair_at ps i q h e =
 
 -- a generator of the list is in its module
 pub generator_in : (gens : Gens) → AreGens gens → IsPrime gens.prime → (k : ℕ) (v : Polynomial) → k < length gens.vectors → v ≡ get_or gens.vectors k v
-    → InModule gens.prime gens.variables (term_lists gens.vectors) v.terms
+    → InModule gens.prime gens.variables (terms_of gens.vectors) v.terms
 generator_in gens are prime k v h e =
     let n = count_lists gens.vectors in
-    let at : get_or (term_lists gens.vectors) k v.terms ≡ v.terms = get_or-map (λ (f : Polynomial). f.terms) gens.vectors k v v.terms h ∙ ap (λ (f : Polynomial). f.terms) (sym e) in
-    in_generator gens.prime gens.variables (term_lists gens.vectors) v.terms (above_one gens.prime prime) (λ k d i. (all_generators gens are k d i).vector) (k, omega arith, at)
+    let at : get_or (terms_of gens.vectors) k v.terms ≡ v.terms = get_or-map (λ (f : Polynomial). f.terms) gens.vectors k v v.terms h ∙ ap (λ (f : Polynomial). f.terms) (sym e) in
+    in_generator gens.prime gens.variables (terms_of gens.vectors) v.terms (above_one gens.prime prime) (λ k d i. (all_generators gens are k d i).vector) (k, omega arith, at)
 
 -- the generators are taken in
 pub ready_still : (gens : Gens) (e : ℕ) (old new : Growing) → IsReady gens e old → IsGrowing gens e new → Gains gens e old new → IsReady gens e new
@@ -42,16 +43,16 @@ ready_still gens e old new r growing g = record {
   growing = growing;
   late = subst (All (λ q. e ≤ q.degree)) (sym g.pairs)
       (All-append (λ q. e ≤ q.degree) old.pairs.items g.more_pairs r.late (All-weaker (λ q. e < q.degree) (λ q. e ≤ q.degree) (λ q h. omega arith) g.more_pairs g.late));
-  awaited = subst (λ c. AreAwaited gens c (term_lists new.basis.items) new.pairs.items (length new.basis.items)) (sym g.cap)
-      (subst (λ ps. AreAwaited gens old.cap (term_lists new.basis.items) ps (length new.basis.items)) (append-nil new.pairs.items)
-      (g.awaited [] (subst (λ ps. AreAwaited gens old.cap (term_lists old.basis.items) ps (length old.basis.items)) (sym (append-nil old.pairs.items)) r.awaited)));
+  awaited = subst (λ c. AreAwaited gens c (terms_of new.basis.items) new.pairs.items (length new.basis.items)) (sym g.cap)
+      (subst (λ ps. AreAwaited gens old.cap (terms_of new.basis.items) ps (length new.basis.items)) (append-nil new.pairs.items)
+      (g.awaited [] (subst (λ ps. AreAwaited gens old.cap (terms_of old.basis.items) ps (length old.basis.items)) (sym (append-nil old.pairs.items)) r.awaited)));
 }
 
 -- all of degree e is done
 pub ready_next : (gens : Gens) (e cap : ℕ) (mid new : Growing) → IsPrime gens.prime → IsGrowing gens e new → new.cap ≡ cap
-    → ((b : List Term) → Contains (term_lists mid.basis.items) b → Contains (term_lists new.basis.items) b)
-    → All (λ q. e < q.degree) new.pairs.items → AreAwaited gens cap (term_lists new.basis.items) new.pairs.items (length new.basis.items)
-    → ((f : List Term) → Contains (term_lists gens.vectors) f → degree_at gens.shift (lead_mono f) ≡ e → InModule gens.prime gens.variables (term_lists mid.basis.items) f)
+    → ((b : List Term) → Contains (terms_of mid.basis.items) b → Contains (terms_of new.basis.items) b)
+    → All (λ q. e < q.degree) new.pairs.items → AreAwaited gens cap (terms_of new.basis.items) new.pairs.items (length new.basis.items)
+    → ((f : List Term) → Contains (terms_of gens.vectors) f → degree_at gens.shift (lead_mono f) ≡ e → InModule gens.prime gens.variables (terms_of mid.basis.items) f)
     → IsReady gens (e + 1) new
 ready_next gens e cap mid new prime growing q larger late awaited members = record {
   growing = record {
@@ -66,34 +67,34 @@ ready_next gens e cap mid new prime growing q larger late awaited members = reco
         apart = b.apart;
         settled = settled;
       };
-      low = All-weaker (λ b. degree_at gens.shift (lead_mono b) ≤ e) (λ b. degree_at gens.shift (lead_mono b) ≤ e + 1) (λ b h. omega arith) (term_lists new.basis.items) growing.grown.low;
+      low = All-weaker (λ b. degree_at gens.shift (lead_mono b) ≤ e) (λ b. degree_at gens.shift (lead_mono b) ≤ e + 1) (λ b h. omega arith) (terms_of new.basis.items) growing.grown.low;
     };
   };
   late = All-weaker (λ q. e < q.degree) (λ q. e + 1 ≤ q.degree) (λ q h. omega arith) new.pairs.items late;
-  awaited = subst (λ c. AreAwaited gens c (term_lists new.basis.items) new.pairs.items (length new.basis.items)) (sym q) awaited;
+  awaited = subst (λ c. AreAwaited gens c (terms_of new.basis.items) new.pairs.items (length new.basis.items)) (sym q) awaited;
 }
   where
-    b : IsBasisBelow gens.prime gens.variables gens.shift (term_lists gens.vectors) (term_lists new.basis.items) e
+    b : IsBasisBelow gens.prime gens.variables gens.shift (terms_of gens.vectors) (terms_of new.basis.items) e
     b = growing.grown.below
 
-    generators : (t : Term) (f : List Term) → Contains (term_lists gens.vectors) (t ∷ f) → degree_at gens.shift t.mono < e + 1
-        → InModule gens.prime gens.variables (term_lists new.basis.items) (t ∷ f)
+    generators : (t : Term) (f : List Term) → Contains (terms_of gens.vectors) (t ∷ f) → degree_at gens.shift t.mono < e + 1
+        → InModule gens.prime gens.variables (terms_of new.basis.items) (t ∷ f)
     generators t f c l = go (cases_lt (degree_at gens.shift t.mono) e)
       where
-        go : (degree_at gens.shift t.mono < e) ⊎ (e ≤ degree_at gens.shift t.mono) → InModule gens.prime gens.variables (term_lists new.basis.items) (t ∷ f)
+        go : (degree_at gens.shift t.mono < e) ⊎ (e ≤ degree_at gens.shift t.mono) → InModule gens.prime gens.variables (terms_of new.basis.items) (t ∷ f)
         go (inl h) = growing.grown.below.generators t f c h
         go (inr h) =
-            in_larger gens.prime gens.variables (term_lists mid.basis.items) (term_lists new.basis.items) (t ∷ f) (positive gens.prime prime)
-            (λ k d i. in_generator gens.prime gens.variables (term_lists new.basis.items) (get_or (term_lists mid.basis.items) k d) (above_one gens.prime prime)
-            (λ k d i. (growing.grown.below.vectors k d i).vector) (larger (get_or (term_lists mid.basis.items) k d) (Contains-get_or (term_lists mid.basis.items) k d i)))
+            in_larger gens.prime gens.variables (terms_of mid.basis.items) (terms_of new.basis.items) (t ∷ f) (positive gens.prime prime)
+            (λ k d i. in_generator gens.prime gens.variables (terms_of new.basis.items) (get_or (terms_of mid.basis.items) k d) (above_one gens.prime prime)
+            (λ k d i. (growing.grown.below.vectors k d i).vector) (larger (get_or (terms_of mid.basis.items) k d) (Contains-get_or (terms_of mid.basis.items) k d i)))
             (members (t ∷ f) c (omega arith))
 
-    settled : (i j : ℕ) (d : List Term) → i < j → j < length (term_lists new.basis.items)
-        → (lead_mono (get_or (term_lists new.basis.items) i d)).component ≡ (lead_mono (get_or (term_lists new.basis.items) j d)).component
-        → degree_at gens.shift (lead_lcm (get_or (term_lists new.basis.items) i d) (get_or (term_lists new.basis.items) j d)) < e + 1
-        → IsSettled gens.prime gens.variables gens.shift (term_lists new.basis.items) (get_or (term_lists new.basis.items) i d) (get_or (term_lists new.basis.items) j d)
+    settled : (i j : ℕ) (d : List Term) → i < j → j < length (terms_of new.basis.items)
+        → (lead_mono (get_or (terms_of new.basis.items) i d)).component ≡ (lead_mono (get_or (terms_of new.basis.items) j d)).component
+        → degree_at gens.shift (lead_lcm (get_or (terms_of new.basis.items) i d) (get_or (terms_of new.basis.items) j d)) < e + 1
+        → IsSettled gens.prime gens.variables gens.shift (terms_of new.basis.items) (get_or (terms_of new.basis.items) i d) (get_or (terms_of new.basis.items) j d)
     settled i j d r l one low =
-        let bs = term_lists new.basis.items in
+        let bs = terms_of new.basis.items in
         let n = count_lists new.basis.items in
         let mi : get_or bs i d ≡ member bs i = get_or_default bs i d [] (omega arith) in
         let mj : get_or bs j d ≡ member bs j = get_or_default bs j d [] l in
@@ -109,17 +110,17 @@ ready_next gens e cap mid new prime growing q larger late awaited members = reco
 
 -- one more pair was gone through
 pub gone_on : (gens : Gens) (e cap k : ℕ) (now new : Growing) (waiting : List Pair) (q : Pair) → k < length waiting → q ≡ get_or waiting k q → now.cap ≡ cap
-    → AreAwaited gens cap (term_lists now.basis.items) (now.pairs.items ++ drop k waiting) (length now.basis.items) → Gains gens e now new
-    → IsSettled gens.prime gens.variables gens.shift (term_lists new.basis.items) (member (term_lists new.basis.items) q.first) (member (term_lists new.basis.items) q.second) ⊎ Contains new.pairs.items q
-    → AreAwaited gens cap (term_lists new.basis.items) (new.pairs.items ++ drop (k + 1) waiting) (length new.basis.items)
+    → AreAwaited gens cap (terms_of now.basis.items) (now.pairs.items ++ drop k waiting) (length now.basis.items) → Gains gens e now new
+    → IsSettled gens.prime gens.variables gens.shift (terms_of new.basis.items) (member (terms_of new.basis.items) q.first) (member (terms_of new.basis.items) q.second) ⊎ Contains new.pairs.items q
+    → AreAwaited gens cap (terms_of new.basis.items) (new.pairs.items ++ drop (k + 1) waiting) (length new.basis.items)
 gone_on gens e cap k now new waiting q h eq c a g done =
-    gone_through gens cap (term_lists new.basis.items) new.pairs.items (drop (k + 1) waiting) q (length new.basis.items) done
-    (subst (λ ps. AreAwaited gens cap (term_lists new.basis.items) (new.pairs.items ++ ps) (length new.basis.items)) (pair_at waiting k q h eq)
-    (subst (λ x. AreAwaited gens x (term_lists new.basis.items) (new.pairs.items ++ drop k waiting) (length new.basis.items)) c
-    (g.awaited (drop k waiting) (subst (λ x. AreAwaited gens x (term_lists now.basis.items) (now.pairs.items ++ drop k waiting) (length now.basis.items)) (sym c) a))))
+    gone_through gens cap (terms_of new.basis.items) new.pairs.items (drop (k + 1) waiting) q (length new.basis.items) done
+    (subst (λ ps. AreAwaited gens cap (terms_of new.basis.items) (new.pairs.items ++ ps) (length new.basis.items)) (pair_at waiting k q h eq)
+    (subst (λ x. AreAwaited gens x (terms_of new.basis.items) (new.pairs.items ++ drop k waiting) (length new.basis.items)) c
+    (g.awaited (drop k waiting) (subst (λ x. AreAwaited gens x (terms_of now.basis.items) (now.pairs.items ++ drop k waiting) (length now.basis.items)) (sym c) a))))
 
-pub pairs_still : (gens : Gens) (e : ℕ) (now new : Growing) (waiting : List Pair) → Gains gens e now new → All (IsPair gens.shift (term_lists now.basis.items)) waiting
-    → All (IsPair gens.shift (term_lists new.basis.items)) waiting
+pub pairs_still : (gens : Gens) (e : ℕ) (now new : Growing) (waiting : List Pair) → Gains gens e now new → All (IsPair gens.shift (terms_of now.basis.items)) waiting
+    → All (IsPair gens.shift (terms_of new.basis.items)) waiting
 pairs_still gens e now new waiting g h =
-    All-weaker (IsPair gens.shift (term_lists now.basis.items)) (IsPair gens.shift (term_lists new.basis.items))
-    (λ q k. pair_more gens (term_lists now.basis.items) (term_lists new.basis.items) (term_lists g.more) q (ap term_lists g.vectors ∙ lists_append now.basis.items g.more) k) waiting h
+    All-weaker (IsPair gens.shift (terms_of now.basis.items)) (IsPair gens.shift (terms_of new.basis.items))
+    (λ q k. pair_more gens (terms_of now.basis.items) (terms_of new.basis.items) (terms_of g.more) q (ap terms_of g.vectors ∙ lists_append now.basis.items g.more) k) waiting h

@@ -13,7 +13,7 @@ use Rattle.std.proofs.lemmas.List.Quantifiers.{all_pairs_push}
 use Rattle.prime_field.specs.Primes.{IsPrime}
 use Rattle.monomials.specs.Mono.{Monomial, IsMono, Divides, total_degree, cmp_dp, cmp_last}
 use Rattle.polys.specs.declared.term.Term.{Term}
-use Rattle.polys.specs.Poly.{Polynomial, IsVector}
+use Rattle.polys.specs.Poly.{Polynomial, IsVector, terms_of}
 use Rattle.polys.specs.Terms.{IsCanonical, EachMono, IsMonic, IsMonicOf, add, sub, multiple}
 use Rattle.polys.proofs.Each.{every_more, every_zip, every_multiple}
 use Rattle.polys.proofs.Units.{canonical_same}
@@ -25,20 +25,20 @@ use Rattle.graded_modules.specs.SVector.{IsSumBelow, IsSettled, lead_lcm, s_vect
 use Rattle.graded_modules.proofs.Graded.{lead_graded, vector_multiple}
 use Rattle.graded_modules.proofs.Cofactors.{divides_degree, divides_same, lcm_right, same_shape}
 use Rattle.graded_modules.proofs.Members.{in_add, in_sub, in_multiple, in_generator, in_larger}
-use Rattle.graded_modules.proofs.Settled.{settled_law}
+use Rattle.graded_modules.proofs.Settled.{settled_law, unscaled}
 use Rattle.graded_modules.proofs.SVectors.{same_degrees}
 use Rattle.prime_field.proofs.Table.{positive_of_prime as positive, above_one}
 use Rattle.polys.proofs.Multiples.{multiple_multiple, multiple_residue, multiple_one, multiple_zero}
 use Rattle.polys.proofs.Differences.{from_sub, to_sub, sub_none}
 use Rattle.graded_modules.proofs.Tops.{tail_below}
-use Rattle.module_basis.specs.Gens.{term_lists}
+use Rattle.module_division.specs.Vectors.{member}
 use Rattle.module_basis.specs.declared.gens.Gens.{Gens}
 use Rattle.module_basis.specs.declared.growing.Growing.{Growing}
 use Rattle.module_basis.specs.declared.pairs.Pair.{Pair}
-use Rattle.module_basis.specs.Division.{IsDivisor, Reduces}
-use Rattle.module_basis.specs.Growing.{member, pair_degree, pair_of, AreOfOneComponent, IsPair, IsSettledPair, IsAwaited, IsGrown, IsGrowing, IsMemberAt, IsNewAt, IsBelowAll}
-use Rattle.module_basis.proofs.Pairing.{count_lists}
-use Rattle.module_basis.proofs.Reductions.{IsTight, IsGradedRemainder, graded_remainder}
+use Rattle.module_division.specs.Division.{IsDivisor, Reduces}
+use Rattle.module_basis.specs.Growing.{pair_degree, pair_of, AreOfOneComponent, IsPair, IsSettledPair, IsAwaited, IsGrown, IsGrowing, IsMemberAt, IsNewAt, IsBelowAll}
+use Rattle.module_division.proofs.Lists.{count_lists, place_of, member_left, divisor_vectors, lists_append, contains_more}
+use Rattle.module_division.proofs.Reductions.{IsTight, IsGradedRemainder, graded_remainder}
 
 -- ---- homogeneous vectors of low degree
 
@@ -85,32 +85,14 @@ divisor_of p n shift f e g m l = record {
   tight = tight p n shift f.terms g;
 }
 
--- what holds of the members holds of the polynomials
-pub all_lists : (P : List Term → Type 0) (fs : List Polynomial) → All P (term_lists fs) → All (λ f. P f.terms) fs
-all_lists P fs h k d l =
-    subst P (get_or-map (λ (f : Polynomial). f.terms) fs k d d.terms l) (h k d.terms (let e = count_lists fs in omega arith))
-
 pub divisors : (gens : Gens) (e : ℕ) (g : Growing) → e ≤ 1000 → IsGrowing gens e g → All (IsDivisor gens.prime) g.basis.items
 divisors gens e g l h k d i =
     let b = h.grown.below in
     let fs = g.basis.items in
-    divisor_of gens.prime gens.variables gens.shift (get_or fs k d) (h.primes k d i) (all_lists (IsGenerator gens.prime gens.variables gens.shift) fs b.vectors k d i)
-    (all_lists IsMonic fs b.monic k d i) (let low = all_lists (λ c. degree_at gens.shift (lead_mono c) ≤ e) fs h.grown.low k d i in omega arith)
-
-pub divisor_vectors : (p : ℕ) (fs : List Polynomial) → All (IsDivisor p) fs → All (IsVector p) (term_lists fs)
-divisor_vectors p fs h = All-map (IsVector p) (λ (f : Polynomial). f.terms) fs (λ k d i. (h k d i).vector)
+    divisor_of gens.prime gens.variables gens.shift (get_or fs k d) (h.primes k d i) (place_of (IsGenerator gens.prime gens.variables gens.shift) fs b.vectors k d i)
+    (place_of IsMonic fs b.monic k d i) (let low = place_of (λ c. degree_at gens.shift (lead_mono c) ≤ e) fs h.grown.low k d i in omega arith)
 
 -- ---- lists that grow
-
-pub member_left : (bs more : List (List Term)) (i : ℕ) → i < length bs → member (bs ++ more) i ≡ member bs i
-member_left bs more i h = get_or-append bs more [] i h
-
-pub lists_append : (fs more : List Polynomial) → term_lists (fs ++ more) ≡ term_lists fs ++ term_lists more
-lists_append fs more = map-append (λ (f : Polynomial). f.terms) fs more
-
-pub contains_more : (fs gs more : List Polynomial) → gs ≡ fs ++ more → (b : List Term) → Contains (term_lists fs) b → Contains (term_lists gs) b
-contains_more fs gs more e b c =
-    subst (λ l. Contains l b) (sym (ap term_lists e ∙ lists_append fs more)) (Contains-append_left (term_lists fs) (term_lists more) b c)
 
 module _ (gens : Gens) where
   pub settled_more : (bs cs : List (List Term)) (i j : ℕ) → i < length bs → j < length bs → (more : List (List Term)) → cs ≡ bs ++ more
@@ -164,16 +146,6 @@ module _ (gens : Gens) where
 
 -- ---- what is left of a vector
 
--- the inverse of the number that made r monic is its lead's coefficient
-unscaled : (p c : ℕ) (t : Term) (r b : List Term) → IsPrime p → c < p → IsCanonical p (t ∷ r) → IsMonic b → b ≡ multiple p c (t ∷ r)
-    → ((t.coeff * c) % p ≡ 1) × (lead_mono b ≡ t.mono)
-unscaled p zero t r b prime l k monic e = absurd (subst IsMonic (e ∙ multiple_zero p (t ∷ r)) monic)
-unscaled p (suc c) t r b prime l k monic e =
-    let s : map (times_residue p (suc c)) (t ∷ r) ≡ b = multiple_by_residue p (suc c) (t ∷ r) prime (omega arith) l k ∙ sym e in
-    let one : (suc c * t.coeff) % p ≡ 1 = subst IsMonic (sym s) monic in
-    let turn : t.coeff * suc c ≡ suc c * t.coeff = omega arith in
-    (ap (λ (n : ℕ). n % p) turn ∙ one, ap lead_mono (sym s))
-
 module _ (gens : Gens) (e : ℕ) (low : e ≤ 1000) (prime : IsPrime gens.prime) (bs : List (List Term)) (grown : IsGrown gens e bs) (vectors : All (IsVector gens.prime) bs)
     (v r : List Term) (at : IsMemberAt gens e v) (d : Reduces gens.prime bs v r) (known : IsVector gens.prime r) where
   left : IsGradedRemainder gens.prime gens.variables gens.shift bs v r e
@@ -197,20 +169,20 @@ module _ (gens : Gens) (e : ℕ) (low : e ≤ 1000) (prime : IsPrime gens.prime)
       settled_law.nothing_left gens.prime gens.variables gens.shift bs m v prime at.graded
       (subst (λ x. IsSumBelow gens.prime gens.variables gens.shift bs m (sub gens.prime v x)) z (left.below m q h))
 
-  rest_in : InModule gens.prime gens.variables (term_lists gens.vectors) r
+  rest_in : InModule gens.prime gens.variables (terms_of gens.vectors) r
   rest_in =
       let p = gens.prime in
       let T = sub p v r in
-      subst (InModule p gens.variables (term_lists gens.vectors))
+      subst (InModule p gens.variables (terms_of gens.vectors))
       (to_sub p v T r (positive p prime) (canonical_same p v at.graded.canonical ∙ sym whole_is ∙ add_comm p r T) ∙ canonical_same p r known.canonical)
-      (in_sub p gens.variables (term_lists gens.vectors) v T (positive p prime) at.member (left.member (term_lists gens.vectors) grown.below.members))
+      (in_sub p gens.variables (terms_of gens.vectors) v T (positive p prime) at.member (left.member (terms_of gens.vectors) grown.below.members))
 
   module _ (b : Polynomial) (b_prime : b.prime ≡ gens.prime) (some : r ≢ []) (monic : IsMonicOf gens.prime r b.terms) where
     pub new_is : EachMono (λ m. IsLeadMultiple bs m → ⊥) r → IsNewAt gens e bs b
     new_is outside = go r refl known some monic left outside rest_in
       where
         go : (x : List Term) → r ≡ x → IsVector gens.prime x → x ≢ [] → IsMonicOf gens.prime x b.terms → IsGradedRemainder gens.prime gens.variables gens.shift bs v x e
-            → EachMono (λ m. IsLeadMultiple bs m → ⊥) x → InModule gens.prime gens.variables (term_lists gens.vectors) x → IsNewAt gens e bs b
+            → EachMono (λ m. IsLeadMultiple bs m → ⊥) x → InModule gens.prime gens.variables (terms_of gens.vectors) x → IsNewAt gens e bs b
         go [] q k s m l o i = absurd (s refl)
         go (t ∷ x) q k s m l o i =
             let p = gens.prime in
@@ -226,7 +198,7 @@ module _ (gens : Gens) (e : ℕ) (low : e ≤ 1000) (prime : IsPrime gens.prime)
                 vector = program_vector p n gens.shift e b.terms g deg (omega arith);
                 graded = g;
                 degree = deg;
-                member = subst (InModule p n (term_lists gens.vectors)) (sym is) (in_multiple p n (term_lists gens.vectors) c (t ∷ x) (positive p prime) i);
+                member = subst (InModule p n (terms_of gens.vectors)) (sym is) (in_multiple p n (terms_of gens.vectors) c (t ∷ x) (positive p prime) i);
               };
               monic = m.0;
               fresh = λ w. o.0 (subst (IsLeadMultiple bs) back.1 w);
@@ -308,7 +280,7 @@ module _ (gens : Gens) (e : ℕ) (prime : IsPrime gens.prime) (bs : List (List T
         below = record {
           vectors = generators_new;
           monic = All-push IsMonic bs b.terms grown.below.monic new.monic;
-          members = All-push (InModule p n (term_lists gens.vectors)) bs b.terms grown.below.members new.member.member;
+          members = All-push (InModule p n (terms_of gens.vectors)) bs b.terms grown.below.members new.member.member;
           generators = λ t f c l. in_larger p n bs cs (t ∷ f) (positive p prime)
               (λ k d i. in_generator p n cs (get_or bs k d) (above_one p prime) (λ k d i. (generators_new k d i).vector) (Contains-append_left bs (b.terms ∷ []) (get_or bs k d) (Contains-get_or bs k d i)))
               (grown.below.generators t f c l);

@@ -7,7 +7,7 @@ use Rattle.std.proofs.lemmas.List.Elements.{All-push, All-append, All-nil, All-m
 use Rattle.prime_field.specs.Primes.{IsPrime}
 use Rattle.monomials.specs.Mono.{Monomial, Divides, total_degree, common_multiple}
 use Rattle.polys.specs.declared.term.Term.{Term}
-use Rattle.polys.specs.Poly.{Polynomial, IsPlain}
+use Rattle.polys.specs.Poly.{Polynomial, IsPlain, terms_of}
 use Rattle.polys.specs.Terms.{EachMono}
 use Rattle.graded_modules.specs.Vector.{IsGraded, IsGenerator, degree_at, lead_mono}
 use Rattle.graded_modules.specs.SVector.{lead_lcm}
@@ -15,14 +15,16 @@ use Rattle.graded_modules.proofs.Graded.{lead_graded}
 use Rattle.graded_modules.proofs.Cofactors.{divides_same, lcm_left, lcm_right, graded_lcm, same_shape}
 use Rattle.graded_modules.proofs.Bases.{basis_law}
 use Rattle.graded_modules.proofs.Settled.{settled_law}
-use Rattle.module_basis.specs.Gens.{AreGens, term_lists}
+use Rattle.module_basis.specs.Gens.{AreGens}
+use Rattle.module_division.specs.Vectors.{member}
 use Rattle.module_basis.specs.declared.gens.Gens.{Gens}
 use Rattle.module_basis.specs.declared.growing.Growing.{Growing}
 use Rattle.module_basis.specs.declared.pairs.Pair.{Pair}
-use Rattle.module_basis.specs.Growing.{member, pair_degree, pair_of, AreOfOneComponent, IsPair, IsSettledPair, IsAwaited, IsGrown, IsGrowing, GainsPairs, HasHighLeads}
-use Rattle.module_basis.proofs.Pairing.{member_is, member_in, paired}
+use Rattle.module_basis.specs.Growing.{pair_degree, pair_of, AreOfOneComponent, IsPair, IsSettledPair, IsAwaited, IsGrown, IsGrowing, GainsPairs, HasHighLeads}
+use Rattle.module_basis.proofs.Pairing.{paired}
+use Rattle.module_division.proofs.Lists.{member_is, member_in}
 
-pub all_generators : (gens : Gens) → AreGens gens → All (IsGenerator gens.prime gens.variables gens.shift) (term_lists gens.vectors)
+pub all_generators : (gens : Gens) → AreGens gens → All (IsGenerator gens.prime gens.variables gens.shift) (terms_of gens.vectors)
 all_generators gens h = All-map (IsGenerator gens.prime gens.variables gens.shift) (λ (f : Polynomial). f.terms) gens.vectors (λ k d i. (h.vectors k d i).vector)
 
 divides_self : (m : Monomial) → Divides m m
@@ -41,7 +43,7 @@ module _ (gens : Gens) (are : AreGens gens) (prime : IsPrime gens.prime) (e cap 
 
   pub joined_deep : cap < pair_degree gens.shift bs i j → HasHighLeads gens cap
   joined_deep h =
-      basis_law.deep gens.prime gens.variables gens.shift (term_lists gens.vectors) bs e cap (member bs i) (member bs j) prime (all_generators gens are) grown.below low grown.low
+      basis_law.deep gens.prime gens.variables gens.shift (terms_of gens.vectors) bs e cap (member bs i) (member bs j) prime (all_generators gens are) grown.below low grown.low
       (member_in bs i before) (member_in bs j inside) differ one h
 
   pub joined_late : e < pair_degree gens.shift bs i j
@@ -63,7 +65,7 @@ module _ (gens : Gens) (are : AreGens gens) (prime : IsPrime gens.prime) (e cap 
       → IsSettledPair gens bs i j
   joined_coprime u v t =
       settled_law.coprime gens.prime gens.variables gens.shift bs (member bs i) (member bs j)
-      (paired gens.prime gens.variables gens.shift prime (term_lists gens.vectors) bs e grown.below i j before inside one)
+      (paired gens.prime gens.variables gens.shift prime (terms_of gens.vectors) bs e grown.below i j before inside one)
       (member_in bs i before) (member_in bs j inside) u v t
 
   pub joined_pair : IsPair gens.shift bs (pair_of gens.shift bs i j)
@@ -79,28 +81,28 @@ pub one_gain : (e : ℕ) (old new : Growing) (q : Pair) → new.cap ≡ old.cap 
 one_gain e old new q c v p l = record { cap = c; vectors = v; more = q ∷ []; pairs = p; late = All-cons (λ q. e < q.degree) q [] l (All-nil (λ q. e < q.degree)) }
 
 pub growing_pair : (gens : Gens) (e : ℕ) (old new : Growing) (q : Pair) → IsGrowing gens e old → new.basis.items ≡ old.basis.items → new.pairs.items ≡ old.pairs.items ++ q ∷ []
-    → IsPair gens.shift (term_lists old.basis.items) q → IsGrowing gens e new
+    → IsPair gens.shift (terms_of old.basis.items) q → IsGrowing gens e new
 growing_pair gens e old new q h v p k = record {
   primes = subst (All (λ f. f.prime ≡ gens.prime)) (sym v) h.primes;
-  grown = subst (λ fs. IsGrown gens e (term_lists fs)) (sym v) h.grown;
+  grown = subst (λ fs. IsGrown gens e (terms_of fs)) (sym v) h.grown;
   pairs =
-      subst (λ fs. All (IsPair gens.shift (term_lists fs)) new.pairs.items) (sym v)
-      (subst (All (IsPair gens.shift (term_lists old.basis.items))) (sym p) (All-push (IsPair gens.shift (term_lists old.basis.items)) old.pairs.items q h.pairs k));
+      subst (λ fs. All (IsPair gens.shift (terms_of fs)) new.pairs.items) (sym v)
+      (subst (All (IsPair gens.shift (terms_of old.basis.items))) (sym p) (All-push (IsPair gens.shift (terms_of old.basis.items)) old.pairs.items q h.pairs k));
 }
 
 -- what the program computed of a pair
 pub computed_degree : (shift : ℕ) (fs : List Polynomial) (i j : ℕ) (f g : Polynomial) (a b m : Monomial) (d : ℕ) → i < length fs → j < length fs → f ≡ get_or fs i f → g ≡ get_or fs j g
-    → a ≡ lead_mono f.terms → b ≡ lead_mono g.terms → m ≡ common_multiple a b → d ≡ degree_at shift m → d ≡ pair_degree shift (term_lists fs) i j
+    → a ≡ lead_mono f.terms → b ≡ lead_mono g.terms → m ≡ common_multiple a b → d ≡ degree_at shift m → d ≡ pair_degree shift (terms_of fs) i j
 computed_degree shift fs i j f g a b m d hi hj ef eg ea eb em ed =
-    let x : a ≡ lead_mono (member (term_lists fs) i) = ea ∙ ap lead_mono (sym (member_is fs i f hi ef)) in
-    let y : b ≡ lead_mono (member (term_lists fs) j) = eb ∙ ap lead_mono (sym (member_is fs j g hj eg)) in
+    let x : a ≡ lead_mono (member (terms_of fs) i) = ea ∙ ap lead_mono (sym (member_is fs i f hi ef)) in
+    let y : b ≡ lead_mono (member (terms_of fs) j) = eb ∙ ap lead_mono (sym (member_is fs j g hj eg)) in
     ed ∙ ap (degree_at shift) em ∙ (λ k. degree_at shift (common_multiple (x k) (y k)))
 
 pub computed_component : (fs : List Polynomial) (i j : ℕ) (f g : Polynomial) (a b : Monomial) → i < length fs → j < length fs → f ≡ get_or fs i f → g ≡ get_or fs j g
-    → a ≡ lead_mono f.terms → b ≡ lead_mono g.terms → a.component ≡ b.component → AreOfOneComponent (term_lists fs) i j
+    → a ≡ lead_mono f.terms → b ≡ lead_mono g.terms → a.component ≡ b.component → AreOfOneComponent (terms_of fs) i j
 computed_component fs i j f g a b hi hj ef eg ea eb h =
-    let x : a ≡ lead_mono (member (term_lists fs) i) = ea ∙ ap lead_mono (sym (member_is fs i f hi ef)) in
-    let y : b ≡ lead_mono (member (term_lists fs) j) = eb ∙ ap lead_mono (sym (member_is fs j g hj eg)) in
+    let x : a ≡ lead_mono (member (terms_of fs) i) = ea ∙ ap lead_mono (sym (member_is fs i f hi ef)) in
+    let y : b ≡ lead_mono (member (terms_of fs) j) = eb ∙ ap lead_mono (sym (member_is fs j g hj eg)) in
     sym (ap (λ (m : Monomial). m.component) x) ∙ h ∙ ap (λ (m : Monomial). m.component) y
 
 pub awaited_pairs : (gens : Gens) (cap : ℕ) (bs : List (List Term)) (ps qs : List Pair) (i j : ℕ) → ((q : Pair) → Contains ps q → Contains qs q)
@@ -140,7 +142,7 @@ coprime_at f g f' g' m ef eg em h =
     (subst (λ x. total_degree (lead_lcm x g).exponents ≡ total_degree (lead_mono x).exponents + total_degree (lead_mono g).exponents) ef (ap (λ w. total_degree w.exponents) (sym em) ∙ h))
 
 pub awaited_same : (gens : Gens) (fs gs : List Polynomial) (cap cap' i k : ℕ) (ps : List Pair) → fs ≡ gs → cap ≡ cap'
-    → (AreOfOneComponent (term_lists fs) i k → IsAwaited gens cap (term_lists fs) ps i k) → AreOfOneComponent (term_lists gs) i k → IsAwaited gens cap' (term_lists gs) ps i k
+    → (AreOfOneComponent (terms_of fs) i k → IsAwaited gens cap (terms_of fs) ps i k) → AreOfOneComponent (terms_of gs) i k → IsAwaited gens cap' (terms_of gs) ps i k
 awaited_same gens fs gs cap cap' i k ps e c h =
-    subst (λ x. AreOfOneComponent (term_lists gs) i k → IsAwaited gens x (term_lists gs) ps i k) c
-    (subst (λ xs. AreOfOneComponent (term_lists xs) i k → IsAwaited gens cap (term_lists xs) ps i k) e h)
+    subst (λ x. AreOfOneComponent (terms_of gs) i k → IsAwaited gens x (terms_of gs) ps i k) c
+    (subst (λ xs. AreOfOneComponent (terms_of xs) i k → IsAwaited gens cap (terms_of xs) ps i k) e h)

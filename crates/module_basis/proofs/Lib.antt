@@ -1,17 +1,8 @@
-pub mod Rank
-pub mod Merging
-pub mod Steps
-pub mod Reductions
-pub mod Pairing
-pub mod Growth
-pub mod Joining
-pub mod Adding
-pub mod Advancing
-pub mod Cores
-pub mod Tails
-pub mod Interreducing
-pub mod Reduced
-pub mod Whole
-pub mod Ideals
-pub mod Tested
-pub mod Standard
+mod Pairing
+mod Growth
+mod Joining
+mod Adding
+mod Advancing
+mod Whole
+mod Ideals
+mod Tested

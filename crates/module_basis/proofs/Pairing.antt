@@ -8,17 +8,18 @@ use Rattle.monomials.specs.Mono.{Monomial, IsMono, Divides, pointwise, times, to
 use Rattle.monomials.proofs.Exponents.{length-pointwise}
 use Rattle.monomials.proofs.Order.{times_comm, times_cancel}
 use Rattle.polys.specs.declared.term.Term.{Term}
-use Rattle.polys.specs.Poly.{Polynomial}
+use Rattle.polys.specs.Poly.{Polynomial, terms_of}
 use Rattle.graded_modules.specs.Vector.{degree_at, lead_mono}
 use Rattle.graded_modules.specs.SVector.{IsSettled, cofactor, lead_lcm}
 use Rattle.graded_modules.specs.Bases.{IsBasisBelow}
 use Rattle.graded_modules.specs.Laws.{ArePaired}
 use Rattle.graded_modules.proofs.Cofactors.{times_cofactor, lcm_comm}
 use Rattle.graded_modules.proofs.Settled.{settled_law}
-use Rattle.module_basis.specs.Gens.{term_lists}
+use Rattle.module_division.specs.Vectors.{member}
 use Rattle.module_basis.specs.declared.gens.Gens.{Gens}
 use Rattle.module_basis.specs.declared.pairs.Pair.{Pair}
-use Rattle.module_basis.specs.Growing.{member, IsPair, IsSettledPair, IsGrown}
+use Rattle.module_basis.specs.Growing.{IsPair, IsSettledPair, IsGrown}
+use Rattle.module_division.proofs.Lists.{count_lists, member_is}
 
 pub total_max : (a b : List ℕ) → total_degree (pointwise max a b) ≤ total_degree a + total_degree b
 total_max [] b = omega arith
@@ -30,15 +31,6 @@ pub quotient_is : (l m q : Monomial) → length l.exponents ≡ 7 → IsMono m �
 quotient_is l m q e hm hq d is =
     times_cancel q (cofactor l m) l (hq.seven ∙ sym (length-pointwise (λ x y. y - x) 7 l.exponents m.exponents e hm.seven))
     (is ∙ sym (times_cofactor l m (e ∙ sym hm.seven) d) ∙ times_comm l (cofactor l m))
-
-pub member_is : (fs : List Polynomial) (i : ℕ) (f : Polynomial) → i < length fs → f ≡ get_or fs i f → member (term_lists fs) i ≡ f.terms
-member_is fs i f h e = get_or-map (λ (g : Polynomial). g.terms) fs i f [] h ∙ ap (λ (g : Polynomial). g.terms) (sym e)
-
-pub count_lists : (fs : List Polynomial) → length (term_lists fs) ≡ length fs
-count_lists fs = length-map fs (λ (g : Polynomial). g.terms)
-
-pub member_in : (bs : List (List Term)) (i : ℕ) → i < length bs → Contains bs (member bs i)
-member_in bs i h = Contains-get_or bs i [] h
 
 module _ (p n shift : ℕ) (prime : IsPrime p) (gs bs : List (List Term)) (e : ℕ) (b : IsBasisBelow p n shift gs bs e) where
   pub paired : (i j : ℕ) → i < length bs → j < length bs → (lead_mono (member bs i)).component ≡ (lead_mono (member bs j)).component
@@ -87,12 +79,12 @@ module _ (p n shift : ℕ) (prime : IsPrime p) (gs bs : List (List Term)) (e : �
 
 -- the link that the program found
 pub linked : (gens : Gens) (fs : List Polynomial) (q : Pair) (k : ℕ) (f g h : Polynomial) (a b c m : Monomial) → IsPrime gens.prime
-    → IsGrown gens q.degree (term_lists fs) → IsPair gens.shift (term_lists fs) q → k < length fs
+    → IsGrown gens q.degree (terms_of fs) → IsPair gens.shift (terms_of fs) q → k < length fs
     → f ≡ get_or fs q.first f → g ≡ get_or fs q.second g → h ≡ get_or fs k h → a ≡ lead_mono f.terms → b ≡ lead_mono g.terms → c ≡ lead_mono h.terms
     → m ≡ common_multiple a b → Divides c m × (degree_at gens.shift (common_multiple a c) < q.degree) × (degree_at gens.shift (common_multiple c b) < q.degree)
-    → IsSettledPair gens (term_lists fs) q.first q.second
+    → IsSettledPair gens (terms_of fs) q.first q.second
 linked gens fs q k f g h a b c m prime grown pair hk ef eg eh ea eb ec em found =
-    let bs = term_lists fs in
+    let bs = terms_of fs in
     let n = count_lists fs in
     let inside = pair.inside in
     let rising = pair.rising in
@@ -102,7 +94,7 @@ linked gens fs q k f g h a b c m prime grown pair hk ef eg eh ea eb ec em found 
     let lb : b ≡ lead_mono (member bs q.second) = eb ∙ ap lead_mono (sym (member_is fs q.second g hj eg)) in
     let lc : c ≡ lead_mono (member bs k) = ec ∙ ap lead_mono (sym (member_is fs k h hk eh)) in
     let lm : m ≡ lead_lcm (member bs q.first) (member bs q.second) = em ∙ (λ i. common_multiple (la i) (lb i)) in
-    chained gens.prime gens.variables gens.shift prime (term_lists gens.vectors) bs q.degree grown.below q.first q.second k (omega arith) inside (omega arith) pair.one_component pair.degree
+    chained gens.prime gens.variables gens.shift prime (terms_of gens.vectors) bs q.degree grown.below q.first q.second k (omega arith) inside (omega arith) pair.one_component pair.degree
     (coe_two (λ x y. Divides x y) c (lead_mono (member bs k)) m (lead_lcm (member bs q.first) (member bs q.second)) lc lm found.0)
     (coe_two (λ x y. degree_at gens.shift (common_multiple x y) < q.degree) a (lead_mono (member bs q.first)) c (lead_mono (member bs k)) la lc found.1)
     (coe_two (λ x y. degree_at gens.shift (common_multiple x y) < q.degree) c (lead_mono (member bs k)) b (lead_mono (member bs q.second)) lc lb found.2)
@@ -111,11 +103,11 @@ linked gens fs q k f g h a b c m prime grown pair hk ef eg eh ea eb ec em found 
     coe_two P x x' y y' p q h = subst (P x') q (subst (λ z. P z y) p h)
 
 -- the leads of a grown basis have low degrees
-pub low_lead : (gens : Gens) (e : ℕ) (fs : List Polynomial) (i : ℕ) (f : Polynomial) → IsGrown gens e (term_lists fs) → i < length fs → f ≡ get_or fs i f
+pub low_lead : (gens : Gens) (e : ℕ) (fs : List Polynomial) (i : ℕ) (f : Polynomial) → IsGrown gens e (terms_of fs) → i < length fs → f ≡ get_or fs i f
     → total_degree (lead_mono f.terms).exponents ≤ e
 low_lead gens e fs i f grown h ef =
     let n = count_lists fs in
-    let bs = term_lists fs in
+    let bs = terms_of fs in
     let l : degree_at gens.shift (lead_mono (member bs i)) ≤ e = grown.low i [] (omega arith) in
     let s : degree_at gens.shift (lead_mono f.terms) ≤ e = subst (λ b. degree_at gens.shift (lead_mono b) ≤ e) (member_is fs i f h ef) l in
     omega arith

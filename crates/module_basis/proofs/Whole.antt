@@ -6,7 +6,7 @@ use Rattle.std.proofs.lemmas.List.{get_or_default, get_or-map}
 use Rattle.std.proofs.lemmas.List.Elements.{All-nil, Contains-get_or}
 use Rattle.prime_field.specs.Primes.{IsPrime}
 use Rattle.polys.specs.declared.term.Term.{Term}
-use Rattle.polys.specs.Poly.{Polynomial, IsVector}
+use Rattle.polys.specs.Poly.{Polynomial, IsVector, terms_of}
 use Rattle.polys.specs.Terms.{EachMono, IsMonic}
 use Rattle.graded_modules.specs.Vector.{IsGenerator, IsGradedVector, HasDegree, degree_at, lead_mono}
 use Rattle.graded_modules.specs.Module.{InModule, IsLeadMultiple}
@@ -18,36 +18,37 @@ use Rattle.graded_modules.proofs.Bases.{basis_law}
 use Rattle.graded_modules.proofs.Members.{in_generator}
 use Rattle.prime_field.proofs.Table.{above_one}
 use Rattle.graded_modules.proofs.Reduced.{reduced_law, normal_law}
-use Rattle.module_basis.specs.Gens.{AreGens, IsHomogeneousOver, term_lists}
+use Rattle.module_basis.specs.Gens.{AreGens, IsHomogeneousOver}
+use Rattle.module_division.specs.Vectors.{member}
 use Rattle.module_basis.specs.declared.gens.Gens.{Gens}
 use Rattle.module_basis.specs.declared.growing.Growing.{Growing}
 use Rattle.module_basis.specs.Basis.{IsBasis, IsHigh}
-use Rattle.module_basis.specs.Division.{IsDivisor, Reduces}
-use Rattle.module_basis.specs.Reduction.{IsInterreduced}
-use Rattle.module_basis.specs.Growing.{member, pair_degree, IsPair, IsGrown, IsReady}
-use Rattle.module_basis.proofs.Pairing.{count_lists}
-use Rattle.module_basis.proofs.Growth.{divisor_vectors, divisor_of}
+use Rattle.module_division.specs.Division.{IsDivisor, Reduces}
+use Rattle.module_division.specs.Reduction.{IsInterreduced}
+use Rattle.module_basis.specs.Growing.{pair_degree, IsPair, IsGrown, IsReady}
+use Rattle.module_division.proofs.Lists.{count_lists, divisor_vectors, place_of}
+use Rattle.module_basis.proofs.Growth.{divisor_of}
 use Rattle.module_basis.proofs.Joining.{all_generators}
-use Rattle.module_basis.proofs.Reductions.{graded_remainder, each_at}
-use Rattle.module_basis.proofs.Reduced.{monic_all, covered, rising_all, apart_all, outside_all, generators_all, members_all, low_all}
+use Rattle.module_division.proofs.Reductions.{graded_remainder, each_at}
+use Rattle.module_division.proofs.Reduced.{monic_all, covered, rising_all, apart_all, outside_all, generators_all, members_all, low_all}
 
 -- nothing is done
 pub ready_first : (gens : Gens) (g : Growing) → g.basis.items ≡ [] → g.pairs.items ≡ [] → IsReady gens 0 g
 ready_first gens g b ps = record {
   growing = record {
     primes = subst (All (λ f. f.prime ≡ gens.prime)) (sym b) (All-nil (λ f. f.prime ≡ gens.prime));
-    grown = subst (λ fs. IsGrown gens 0 (term_lists fs)) (sym b) (record {
+    grown = subst (λ fs. IsGrown gens 0 (terms_of fs)) (sym b) (record {
       below = record {
         vectors = All-nil (IsGenerator gens.prime gens.variables gens.shift);
         monic = All-nil IsMonic;
-        members = All-nil (InModule gens.prime gens.variables (term_lists gens.vectors));
+        members = All-nil (InModule gens.prime gens.variables (terms_of gens.vectors));
         generators = λ t f c l. absurd (omega arith);
         apart = λ i j d r l. absurd (omega arith);
         settled = λ i j d r l. absurd (omega arith);
       };
       low = All-nil (λ b. degree_at gens.shift (lead_mono b) ≤ 0);
     });
-    pairs = subst (All (IsPair gens.shift (term_lists g.basis.items))) (sym ps) (All-nil (IsPair gens.shift (term_lists g.basis.items)));
+    pairs = subst (All (IsPair gens.shift (terms_of g.basis.items))) (sym ps) (All-nil (IsPair gens.shift (terms_of g.basis.items)));
   };
   late = subst (All (λ q. 0 ≤ q.degree)) (sym ps) (All-nil (λ q. 0 ≤ q.degree));
   awaited = λ i j r l. let n : length g.basis.items ≡ 0 = ap length b in absurd (omega arith);
@@ -56,19 +57,19 @@ ready_first gens g b ps = record {
 -- what the answer says
 pub record IsAnswer (gens : Gens) (cap : ℕ) (qs : List Polynomial) : Type 0 where
   pub basis : IsBasis (record { prime = gens.prime; variables = gens.variables; shift = gens.shift; vectors = qs })
-  pub one_module : SpanOneModule gens.prime gens.variables (term_lists gens.vectors) (term_lists qs)
-  pub not_deep : IsDeep gens.prime gens.variables gens.shift (term_lists gens.vectors) cap → ⊥
-  pub low : All (λ b. degree_at gens.shift (lead_mono b) ≤ cap) (term_lists qs)
+  pub one_module : SpanOneModule gens.prime gens.variables (terms_of gens.vectors) (terms_of qs)
+  pub not_deep : IsDeep gens.prime gens.variables gens.shift (terms_of gens.vectors) cap → ⊥
+  pub low : All (λ b. degree_at gens.shift (lead_mono b) ≤ cap) (terms_of qs)
 
 pub answered : (gens : Gens) → AreGens gens → IsPrime gens.prime → (cap e : ℕ) → cap ≤ 1000 → (g : Growing) → IsReady gens e g → e ≡ cap + 1 → g.cap ≡ cap
-    → (HasHighVector gens.shift (term_lists gens.vectors) cap → ⊥) → All (λ b. degree_at gens.shift (lead_mono b) ≤ cap) (term_lists g.basis.items)
-    → (qs : List Polynomial) → IsInterreduced gens.prime (term_lists g.basis.items) qs → IsAnswer gens cap qs
+    → (HasHighVector gens.shift (terms_of gens.vectors) cap → ⊥) → All (λ b. degree_at gens.shift (lead_mono b) ≤ cap) (terms_of g.basis.items)
+    → (qs : List Polynomial) → IsInterreduced gens.prime (terms_of g.basis.items) qs → IsAnswer gens cap qs
 answered gens are prime cap e small g ready last c high low qs h =
     let p = gens.prime in
     let n = gens.variables in
     let shift = gens.shift in
-    let gs = term_lists gens.vectors in
-    let bs = term_lists g.basis.items in
+    let gs = terms_of gens.vectors in
+    let bs = terms_of g.basis.items in
     let allgs = all_generators gens are in
     let s : e ≡ suc cap = omega arith in
     let b = ready.growing.grown.below in
@@ -90,7 +91,7 @@ answered gens are prime cap e small g ready last c high low qs h =
     let gen = generators_all p n shift prime bs b.monic b.vectors vectors qs h seven in
     let mon = monic_all p bs b.monic seven qs h in
     let lows = low_all p n shift prime bs b.monic b.vectors vectors qs h seven cap low in
-    let r = reduced_law p n shift gs (term_lists qs) prime allgs (λ m x. covered p bs b.monic seven qs h m (w.1 m x)) (members_all p n shift prime bs b.monic b.vectors vectors qs h seven gs b.members)
+    let r = reduced_law p n shift gs (terms_of qs) prime allgs (λ m x. covered p bs b.monic seven qs h m (w.1 m x)) (members_all p n shift prime bs b.monic b.vectors vectors qs h seven gs b.members)
     gen mon (rising_all p bs b.monic seven qs h) (apart_all p bs b.monic seven qs h) (outside_all p bs b.monic seven qs h) in
     record {
       basis = record {
@@ -103,26 +104,23 @@ answered gens are prime cap e small g ready last c high low qs h =
       low = lows;
     }
   where
-    at_place : (P : List Term → Type 0) (fs : List Polynomial) → All P (term_lists fs) → (k : ℕ) (d : Polynomial) → k < length fs → P (get_or fs k d).terms
-    at_place P fs all k d l = subst P (get_or-map (λ (f : Polynomial). f.terms) fs k d d.terms l) (all k d.terms (let e = count_lists fs in omega arith))
-
-    divisors_at : (p n shift : ℕ) (fs : List Polynomial) → All (λ f. f.prime ≡ p) fs → All (IsGenerator p n shift) (term_lists fs) → All IsMonic (term_lists fs)
-        → All (λ b. degree_at shift (lead_mono b) ≤ 60000) (term_lists fs) → All (IsDivisor p) fs
+    divisors_at : (p n shift : ℕ) (fs : List Polynomial) → All (λ f. f.prime ≡ p) fs → All (IsGenerator p n shift) (terms_of fs) → All IsMonic (terms_of fs)
+        → All (λ b. degree_at shift (lead_mono b) ≤ 60000) (terms_of fs) → All (IsDivisor p) fs
     divisors_at p n shift fs primes gen mon low k d l =
-        divisor_of p n shift (get_or fs k d) (primes k d l) (at_place (IsGenerator p n shift) fs gen k d l) (at_place IsMonic fs mon k d l) (at_place (λ b. degree_at shift (lead_mono b) ≤ 60000) fs low k d l)
+        divisor_of p n shift (get_or fs k d) (primes k d l) (place_of (IsGenerator p n shift) fs gen k d l) (place_of IsMonic fs mon k d l) (place_of (λ b. degree_at shift (lead_mono b) ≤ 60000) fs low k d l)
 
-    over : (p n shift : ℕ) (fs : List Polynomial) → All (λ f. f.prime ≡ p) fs → All (IsGenerator p n shift) (term_lists fs) → All (IsHomogeneousOver p n shift) fs
-    over p n shift fs primes gen k d l = record { prime = primes k d l; vector = at_place (IsGenerator p n shift) fs gen k d l }
+    over : (p n shift : ℕ) (fs : List Polynomial) → All (λ f. f.prime ≡ p) fs → All (IsGenerator p n shift) (terms_of fs) → All (IsHomogeneousOver p n shift) fs
+    over p n shift fs primes gen k d l = record { prime = primes k d l; vector = place_of (IsGenerator p n shift) fs gen k d l }
 
 -- ---- normal forms
 
-pub normal_of : (b : Gens) → IsBasis b → IsPrime b.prime → (v r : List Term) → IsGenerator b.prime b.variables b.shift v → Reduces b.prime (term_lists b.vectors) v r → IsVector b.prime r
-    → EachMono (λ m. IsLeadMultiple (term_lists b.vectors) m → ⊥) r
-    → IsNormalForm b.prime b.variables (term_lists b.vectors) v r × IsGradedVector b.prime b.variables r × ((e : ℕ) → HasDegree b.shift e v → HasDegree b.shift e r)
+pub normal_of : (b : Gens) → IsBasis b → IsPrime b.prime → (v r : List Term) → IsGenerator b.prime b.variables b.shift v → Reduces b.prime (terms_of b.vectors) v r → IsVector b.prime r
+    → EachMono (λ m. IsLeadMultiple (terms_of b.vectors) m → ⊥) r
+    → IsNormalForm b.prime b.variables (terms_of b.vectors) v r × IsGradedVector b.prime b.variables r × ((e : ℕ) → HasDegree b.shift e v → HasDegree b.shift e r)
 normal_of b h prime v r g d known outside =
     let p = b.prime in
     let n = b.variables in
-    let bs = term_lists b.vectors in
+    let bs = terms_of b.vectors in
     let vectors = divisor_vectors p b.vectors h.divisors in
     let all = h.reduced.vectors in
     let x = graded_remainder p n b.shift prime bs all vectors v r g.homogeneous.0 g.vector g.homogeneous.1 d known.canonical in (
@@ -135,32 +133,29 @@ normal_of b h prime v r g d known outside =
 
 -- ---- vectors above the cap
 
-pub high_in : (shift cap : ℕ) (vs : List Polynomial) (k : ℕ) (v : Polynomial) → k < length vs → v ≡ get_or vs k v → IsHigh shift cap v.terms → HasHighVector shift (term_lists vs) cap
+pub high_in : (shift cap : ℕ) (vs : List Polynomial) (k : ℕ) (v : Polynomial) → k < length vs → v ≡ get_or vs k v → IsHigh shift cap v.terms → HasHighVector shift (terms_of vs) cap
 high_in shift cap vs k v h e (t, f, q, l) =
     let n = count_lists vs in
-    let at : get_or (term_lists vs) k v.terms ≡ v.terms = get_or-map (λ (f : Polynomial). f.terms) vs k v v.terms h ∙ ap (λ (f : Polynomial). f.terms) (sym e) in
-    (t, f, subst (Contains (term_lists vs)) q (k, omega arith, at), l)
+    let at : get_or (terms_of vs) k v.terms ≡ v.terms = get_or-map (λ (f : Polynomial). f.terms) vs k v v.terms h ∙ ap (λ (f : Polynomial). f.terms) (sym e) in
+    (t, f, subst (Contains (terms_of vs)) q (k, omega arith, at), l)
 
-pub none_high : (shift cap : ℕ) (vs : List Polynomial) → ((k : ℕ) (d : Polynomial) → k < length vs → IsHigh shift cap (get_or vs k d).terms → ⊥) → HasHighVector shift (term_lists vs) cap → ⊥
+pub none_high : (shift cap : ℕ) (vs : List Polynomial) → ((k : ℕ) (d : Polynomial) → k < length vs → IsHigh shift cap (get_or vs k d).terms → ⊥) → HasHighVector shift (terms_of vs) cap → ⊥
 none_high shift cap vs none (t, f, (k, l, e), h) =
     let n = count_lists vs in
     let D : Polynomial = record { prime = 0; terms = t ∷ f } in
     none k D (omega arith) (t, f, sym (get_or-map (λ (g : Polynomial). g.terms) vs k D (t ∷ f) (omega arith)) ∙ e, h)
 
-pub place_of : (P : List Term → Type 0) (fs : List Polynomial) → All P (term_lists fs) → (k : ℕ) (d : Polynomial) → k < length fs → P (get_or fs k d).terms
-place_of P fs all k d l = subst P (get_or-map (λ (f : Polynomial). f.terms) fs k d d.terms l) (all k d.terms (let e = count_lists fs in omega arith))
-
 -- the vectors of low degree divide
-pub last_divisors : (gens : Gens) (e cap : ℕ) (g : Growing) → cap ≤ 1000 → IsReady gens e g → All (λ b. degree_at gens.shift (lead_mono b) ≤ cap) (term_lists g.basis.items) → All (IsDivisor gens.prime) g.basis.items
+pub last_divisors : (gens : Gens) (e cap : ℕ) (g : Growing) → cap ≤ 1000 → IsReady gens e g → All (λ b. degree_at gens.shift (lead_mono b) ≤ cap) (terms_of g.basis.items) → All (IsDivisor gens.prime) g.basis.items
 last_divisors gens e cap g small ready low k d l =
     let fs = g.basis.items in
     let b = ready.growing.grown.below in
     divisor_of gens.prime gens.variables gens.shift (get_or fs k d) (ready.growing.primes k d l) (place_of (IsGenerator gens.prime gens.variables gens.shift) fs b.vectors k d l)
     (place_of IsMonic fs b.monic k d l) (let x = place_of (λ c. degree_at gens.shift (lead_mono c) ≤ cap) fs low k d l in omega arith)
 
-pub normal_at : (s b : Gens) → s ≡ b → IsBasis b → IsPrime b.prime → (v r : List Term) → IsGenerator s.prime s.variables s.shift v → Reduces b.prime (term_lists b.vectors) v r → IsVector b.prime r
-    → EachMono (λ m. IsLeadMultiple (term_lists b.vectors) m → ⊥) r
-    → IsNormalForm s.prime s.variables (term_lists s.vectors) v r × IsGradedVector s.prime s.variables r × ((e : ℕ) → HasDegree s.shift e v → HasDegree s.shift e r)
+pub normal_at : (s b : Gens) → s ≡ b → IsBasis b → IsPrime b.prime → (v r : List Term) → IsGenerator s.prime s.variables s.shift v → Reduces b.prime (terms_of b.vectors) v r → IsVector b.prime r
+    → EachMono (λ m. IsLeadMultiple (terms_of b.vectors) m → ⊥) r
+    → IsNormalForm s.prime s.variables (terms_of s.vectors) v r × IsGradedVector s.prime s.variables r × ((e : ℕ) → HasDegree s.shift e v → HasDegree s.shift e r)
 normal_at s b e h prime v r g d known outside =
-    subst (λ x. IsNormalForm x.prime x.variables (term_lists x.vectors) v r × IsGradedVector x.prime x.variables r × ((e : ℕ) → HasDegree x.shift e v → HasDegree x.shift e r)) (sym e)
+    subst (λ x. IsNormalForm x.prime x.variables (terms_of x.vectors) v r × IsGradedVector x.prime x.variables r × ((e : ℕ) → HasDegree x.shift e v → HasDegree x.shift e r)) (sym e)
     (normal_of b h prime v r (subst (λ x. IsGenerator x.prime x.variables x.shift v) e g) d known outside)

@@ -3,7 +3,7 @@ use Rattle.std.specs.Prelude.{◌≡◌, ℕ, ◌<◌, ◌≤◌, List, ◌∷�
 use Rattle.monomials.specs.Mono.{Monomial}
 use Rattle.polys.specs.declared.term.Term.{Term}
 use Rattle.polys.specs.Curve.{IsOver}
-use Rattle.polys.specs.Poly.{Polynomial}
+use Rattle.polys.specs.Poly.{Polynomial, terms_of}
 use Rattle.polys.specs.Terms.{IsMonic, IsPoly, degree_of, sub}
 use Rattle.homogenising.specs.Homogenised.{with_hom, dehomogenised, all_dehomogenised}
 use Rattle.homogenising.specs.Laws.{IsHomogeneousPoly, HasAffineLeads}
@@ -13,13 +13,13 @@ use Rattle.graded_modules.specs.Module.{IsLeadMultiple}
 use Rattle.graded_modules.specs.Vector.{degree_at}
 use Rattle.graded_modules.specs.Bases.{IsReduced, SpanOneModule}
 use Rattle.module_basis.specs.declared.gens.Gens.{Gens}
-use Rattle.module_basis.specs.Gens.{AreGens, term_lists}
-use Rattle.module_basis.specs.Division.{IsDivisor}
+use Rattle.module_basis.specs.Gens.{AreGens}
+use Rattle.module_division.specs.Division.{IsDivisor}
 
 -- homogeneous vectors that are the reduced basis of their module
 pub record IsBasis (b : Gens) : Type 0 where
   pub gens : AreGens b
-  pub reduced : IsReduced b.prime b.variables b.shift (term_lists b.vectors)
+  pub reduced : IsReduced b.prime b.variables b.shift (terms_of b.vectors)
   pub divisors : All (IsDivisor b.prime) b.vectors
 
 -- one prime, number of variables and degree of the second unit vector
@@ -44,24 +44,11 @@ lowered t = record { coeff = t.coeff; mono = with_hom 0 t.mono }
 -- the homogenising variable is set to 1
 abbrev pub IsLoweredBasis : Gens → List (List Term) → Type 0
 IsLoweredBasis b ds =
-    (gs : List (List Term)) → All (IsHomogeneousPoly b.prime b.variables) gs → SpanOneModule b.prime b.variables gs (term_lists b.vectors)
+    (gs : List (List Term)) → All (IsHomogeneousPoly b.prime b.variables) gs → SpanOneModule b.prime b.variables gs (terms_of b.vectors)
     → IsReducedBasis b.prime b.variables (InIdeal b.prime b.variables (all_dehomogenised b.prime gs)) ds
 
 -- and the lead of each member of this ideal is a multiple of the lead of a member of ds
 abbrev pub HasLoweredLeads : Gens → List (List Term) → Type 0
 HasLoweredLeads b ds =
-    (gs : List (List Term)) → All (IsHomogeneousPoly b.prime b.variables) gs → SpanOneModule b.prime b.variables gs (term_lists b.vectors)
+    (gs : List (List Term)) → All (IsHomogeneousPoly b.prime b.variables) gs → SpanOneModule b.prime b.variables gs (terms_of b.vectors)
     → HasAffineLeads b.prime b.variables (all_dehomogenised b.prime gs) ds
-
--- monic polynomials over the prime in these variables, with all leads of their ideal
-pub record AreStandard (p n : ℕ) (members : List Polynomial) : Type 0 where
-  pub over : All (IsOver p n) members
-  pub monic : All IsMonic (term_lists members)
-  pub leads : HasAffineLeads p n (term_lists members) (term_lists members)
-
--- r is left of v by the divisors: v - r is in their ideal, and no monomial of r is a multiple of a lead
-pub record IsRemainder (p n : ℕ) (divisors : List (List Term)) (v r : List Term) : Type 0 where
-  pub poly : IsPoly p n r
-  pub difference : InIdeal p n divisors (sub p v r)
-  pub outside : (m : Monomial) → Contains (map (λ t. t.mono) r) m → IsLeadMultiple divisors m → ⊥
-  pub low : degree_of r ≤ degree_of v

@@ -7,10 +7,6 @@ use Rattle.homogenising.specs.Homogenised.{with_hom, homogenised}
 use Rattle.graded_modules.specs.Vector.{IsGenerator}
 use Rattle.module_basis.specs.declared.gens.Gens.{Gens}
 
--- the lists of terms
-abbrev pub term_lists : List Polynomial → List (List Term)
-term_lists fs = map (λ f. f.terms) fs
-
 -- a homogeneous vector of the program over this prime
 pub record IsHomogeneousOver (p n shift : ℕ) (f : Polynomial) : Type 0 where
   pub prime : f.prime ≡ p

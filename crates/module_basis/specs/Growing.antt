@@ -4,7 +4,7 @@ use Rattle.std.specs.declared.cmp.Ordering.TheVariants.{Less}
 use Rattle.monomials.specs.Mono.{Monomial, cmp_dp}
 use Rattle.polys.specs.declared.term.Term.{Term}
 use Rattle.polys.specs.Terms.{EachMono, IsMonic}
-use Rattle.polys.specs.Poly.{Polynomial, IsVector}
+use Rattle.polys.specs.Poly.{Polynomial, IsVector, terms_of}
 use Rattle.graded_modules.specs.Vector.{IsGradedVector, HasDegree, degree_at, lead_mono}
 use Rattle.graded_modules.specs.Module.{InModule, IsLeadMultiple}
 use Rattle.graded_modules.specs.SVector.{IsSumBelow, IsSettled, lead_lcm}
@@ -13,11 +13,7 @@ use Rattle.graded_modules.specs.Bases.{IsBasisBelow}
 use Rattle.module_basis.specs.declared.gens.Gens.{Gens}
 use Rattle.module_basis.specs.declared.growing.Growing.{Growing}
 use Rattle.module_basis.specs.declared.pairs.Pair.{Pair}
-use Rattle.module_basis.specs.Gens.{term_lists}
-
--- the member with this number, and 0 beyond the list
-abbrev pub member : List (List Term) → ℕ → List Term
-member bs i = slice_index_or bs i []
+use Rattle.module_division.specs.Vectors.{member}
 
 -- the leads of two members have one component
 abbrev pub AreOfOneComponent : List (List Term) → ℕ → ℕ → Type 0
@@ -53,20 +49,20 @@ AreAwaited gens cap bs ps limit = (i j : ℕ) → i < j → j < limit → AreOfO
 
 -- a basis below the degree e, of vectors of degree at most e
 pub record IsGrown (gens : Gens) (e : ℕ) (bs : List (List Term)) : Type 0 where
-  pub below : IsBasisBelow gens.prime gens.variables gens.shift (term_lists gens.vectors) bs e
+  pub below : IsBasisBelow gens.prime gens.variables gens.shift (terms_of gens.vectors) bs e
   pub low : All (λ b. degree_at gens.shift (lead_mono b) ≤ e) bs
 
 -- such a basis over the prime, with pairs of its members
 pub record IsGrowing (gens : Gens) (e : ℕ) (g : Growing) : Type 0 where
   pub primes : All (λ f. f.prime ≡ gens.prime) g.basis.items
-  pub grown : IsGrown gens e (term_lists g.basis.items)
-  pub pairs : All (IsPair gens.shift (term_lists g.basis.items)) g.pairs.items
+  pub grown : IsGrown gens e (terms_of g.basis.items)
+  pub pairs : All (IsPair gens.shift (terms_of g.basis.items)) g.pairs.items
 
 -- all of degree below e is done, and the pairs of degree e or more wait
 pub record IsReady (gens : Gens) (e : ℕ) (g : Growing) : Type 0 where
   pub growing : IsGrowing gens e g
   pub late : All (λ q. e ≤ q.degree) g.pairs.items
-  pub awaited : AreAwaited gens g.cap (term_lists g.basis.items) g.pairs.items (length g.basis.items)
+  pub awaited : AreAwaited gens g.cap (terms_of g.basis.items) g.pairs.items (length g.basis.items)
 
 -- nothing changes but that pairs of degree above e are added
 pub record GainsPairs (e : ℕ) (old new : Growing) : Type 0 where
@@ -84,15 +80,15 @@ pub record Gains (gens : Gens) (e : ℕ) (old new : Growing) : Type 0 where
   pub more_pairs : List Pair
   pub pairs : new.pairs.items ≡ old.pairs.items ++ more_pairs
   pub late : All (λ q. e < q.degree) more_pairs
-  pub awaited : (ps : List Pair) → AreAwaited gens old.cap (term_lists old.basis.items) (old.pairs.items ++ ps) (length old.basis.items)
-      → AreAwaited gens old.cap (term_lists new.basis.items) (new.pairs.items ++ ps) (length new.basis.items)
+  pub awaited : (ps : List Pair) → AreAwaited gens old.cap (terms_of old.basis.items) (old.pairs.items ++ ps) (length old.basis.items)
+      → AreAwaited gens old.cap (terms_of new.basis.items) (new.pairs.items ++ ps) (length new.basis.items)
 
 -- a member of degree e of the module of the generators
 pub record IsMemberAt (gens : Gens) (e : ℕ) (v : List Term) : Type 0 where
   pub vector : IsVector gens.prime v
   pub graded : IsGradedVector gens.prime gens.variables v
   pub degree : HasDegree gens.shift e v
-  pub member : InModule gens.prime gens.variables (term_lists gens.vectors) v
+  pub member : InModule gens.prime gens.variables (terms_of gens.vectors) v
 
 -- a monic one whose lead is no multiple of a lead
 pub record IsNewAt (gens : Gens) (e : ℕ) (bs : List (List Term)) (b : Polynomial) : Type 0 where
@@ -108,4 +104,4 @@ IsBelowAll gens e bs v =
 
 -- two leads of members have a least common multiple above the cap
 abbrev pub HasHighLeads : Gens → ℕ → Type 0
-HasHighLeads gens cap = HasHighPair gens.prime gens.variables gens.shift (term_lists gens.vectors) cap
+HasHighLeads gens cap = HasHighPair gens.prime gens.variables gens.shift (terms_of gens.vectors) cap

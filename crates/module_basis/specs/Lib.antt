@@ -1,5 +1,5 @@
+-- cited by public clauses
 pub mod Gens
-pub mod Division
-pub mod Growing
-pub mod Reduction
 pub mod Basis
+-- steps of the code
+pub mod Growing

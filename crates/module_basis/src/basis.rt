@@ -2,23 +2,21 @@
 ghost use Rattle.std.specs.Prelude.{◌≡◌, ◌↔◌, ◌≤◌, ℕ, map, All, IsTrue, IfOk, IfErr};
 ghost use Rattle.monomials.specs.Mono.{IsMono};
 ghost use Rattle.polys.specs.Curve.{IsOver};
-ghost use Rattle.polys.specs.Poly.{IsPlain, IsVector};
+ghost use Rattle.polys.specs.Poly.{IsPlain, IsVector, terms_of};
 ghost use Rattle.polys.specs.Terms.{EachMono};
 ghost use Rattle.graded_modules.specs.Vector.{IsGradedVector, IsGenerator, HasDegree, degree_at, lead_mono};
 ghost use Rattle.graded_modules.specs.Deep.{HasHighVector, IsDeep};
 ghost use Rattle.graded_modules.specs.Bases.{SpanOneModule, IsReduced, IsNormalForm};
 ghost use Rattle.module_basis.specs.declared.gens.BasisStop.TheVariants.{Deep};
-ghost use Rattle.module_basis.specs.Gens.{AreGens, term_lists};
+ghost use Rattle.module_basis.specs.Gens.{AreGens};
 ghost use Rattle.homogenising.specs.Laws.{IsHomogeneousPoly};
 ghost use Rattle.module_basis.specs.Basis.{IsBasis, AreOverOneRing, IsHigh, lowered_of, lowered, IsLoweredBasis, HasLoweredLeads};
 
-use crate::division::remainder;
 use crate::growing::Growing;
-use crate::leads::degree_at;
-use crate::reduction::interreduced;
 use crate::{BasisStop, Gens};
 use homogenising::laws::{ideals_have_bases_by_leads, leads_lose_the_variable, leads_stay_leads};
 use lists::{List, NoMemory};
+use module_division::{degree_at, interreduced_vectors, vector_remainder};
 use polys::{Poly, Term};
 use prime_field::Prime;
 use std::alloc::{AllocError, Global};
@@ -64,10 +62,10 @@ pub fn graded_basis(alloc: Global, gens: &Gens, cap: u32) -> Result<GradedBasis,
     requires cap { (1 ≤ cap) × (cap ≤ 1000) }
     ensures reduced { IfOk result (λ basis. IsBasis basis) }
     ensures same_ring { IfOk result (λ basis. AreOverOneRing gens.now basis) }
-    ensures one_module { IfOk result (λ basis. SpanOneModule gens.now.prime gens.now.variables (term_lists gens.now.vectors) (term_lists basis.vectors)) }
-    ensures not_deep { IfOk result (λ basis. IsDeep gens.now.prime gens.now.variables gens.now.shift (term_lists gens.now.vectors) cap → ⊥) }
-    ensures low { IfOk result (λ basis. All (λ b. degree_at gens.now.shift (lead_mono b) ≤ cap) (term_lists basis.vectors)) }
-    ensures deep { IfErr result (λ stop. stop ≡ Deep → IsDeep gens.now.prime gens.now.variables gens.now.shift (term_lists gens.now.vectors) cap) }
+    ensures one_module { IfOk result (λ basis. SpanOneModule gens.now.prime gens.now.variables (terms_of gens.now.vectors) (terms_of basis.vectors)) }
+    ensures not_deep { IfOk result (λ basis. IsDeep gens.now.prime gens.now.variables gens.now.shift (terms_of gens.now.vectors) cap → ⊥) }
+    ensures low { IfOk result (λ basis. All (λ b. degree_at gens.now.shift (lead_mono b) ≤ cap) (terms_of basis.vectors)) }
+    ensures deep { IfErr result (λ stop. stop ≡ Deep → IsDeep gens.now.prime gens.now.variables gens.now.shift (terms_of gens.now.vectors) cap) }
 {
     let _modulus = gens.prime.get();
     if has_high_vector(gens.vectors.as_slice(), gens.shift, cap) {
@@ -77,7 +75,7 @@ pub fn graded_basis(alloc: Global, gens: &Gens, cap: u32) -> Result<GradedBasis,
     for e in 0..cap + 1 {
         growing.advance(gens, e)?;
     }
-    let vectors = interreduced(alloc, gens.prime, &growing.basis)?;
+    let vectors = interreduced_vectors(alloc, gens.prime, &growing.basis)?;
     Ok(GradedBasis {
         prime: gens.prime,
         variables: gens.variables,
@@ -88,7 +86,7 @@ pub fn graded_basis(alloc: Global, gens: &Gens, cap: u32) -> Result<GradedBasis,
 
 // Whether a vector that is not 0 has a degree above the cap.
 fn has_high_vector(vectors: &[Poly], shift: u32, cap: u32) -> bool
-    ensures { IsTrue result ↔ HasHighVector shift (term_lists vectors.now) cap }
+    ensures { IsTrue result ↔ HasHighVector shift (terms_of vectors.now) cap }
 {
     for k in 0..vectors.len() {
         if is_high(&vectors[k], shift, cap) {
@@ -133,7 +131,7 @@ impl GradedBasis {
     /// The vectors of the reduced basis, in rising order of their leads.
     pub fn vectors(&self) -> &[Poly]
         ensures value { result.now ≡ self.now.vectors }
-        ensures known { AreGens self.now × IsReduced self.now.prime self.now.variables self.now.shift (term_lists self.now.vectors) }
+        ensures known { AreGens self.now × IsReduced self.now.prime self.now.variables self.now.shift (terms_of self.now.vectors) }
     {
         self.vectors.as_slice()
     }
@@ -144,14 +142,14 @@ impl GradedBasis {
         requires prime { v.now.prime ≡ self.now.prime }
         requires vector { IsGenerator self.now.prime self.now.variables self.now.shift v.now.terms }
         ensures prime { IfOk result (λ r. r.prime ≡ self.now.prime) }
-        ensures normal { IfOk result (λ r. IsNormalForm self.now.prime self.now.variables (term_lists self.now.vectors) v.now.terms r.terms) }
+        ensures normal { IfOk result (λ r. IsNormalForm self.now.prime self.now.variables (terms_of self.now.vectors) v.now.terms r.terms) }
         ensures graded { IfOk result (λ r. IsGradedVector self.now.prime self.now.variables r.terms) }
         ensures degree { IfOk result (λ r. (e : ℕ) → HasDegree self.now.shift e v.now.terms → HasDegree self.now.shift e r.terms) }
     {
         let _modulus = self.prime.get();
         let terms = v.clone_poly()?.into_terms();
         let alloc = *terms.allocator();
-        let rest = remainder(alloc, self.prime, terms, &self.vectors)?;
+        let rest = vector_remainder(alloc, self.prime, terms, &self.vectors)?;
         Ok(Poly::of_terms(self.prime, rest))
     }
 
@@ -160,10 +158,10 @@ impl GradedBasis {
     ///
     /// Greuel and Pfister, section on homogenisation.
     pub fn dehomogenised(&self) -> Result<List<Poly>, NoMemory>
-        requires plain { All (EachMono IsPlain) (term_lists self.now.vectors) }
+        requires plain { All (EachMono IsPlain) (terms_of self.now.vectors) }
         ensures over { IfOk result (λ ds. All (IsOver self.now.prime self.now.variables) ds) }
-        ensures basis { IfOk result (λ ds. IsLoweredBasis self.now (term_lists ds)) }
-        ensures leads { IfOk result (λ ds. HasLoweredLeads self.now (term_lists ds)) }
+        ensures basis { IfOk result (λ ds. IsLoweredBasis self.now (terms_of ds)) }
+        ensures leads { IfOk result (λ ds. HasLoweredLeads self.now (terms_of ds)) }
     {
         let _modulus = self.prime.get();
         leads_lose_the_variable();
@@ -171,7 +169,7 @@ impl GradedBasis {
         ideals_have_bases_by_leads();
         let alloc = *self.vectors.allocator();
         let affine = all_lowered(alloc, self.prime, self.variables, &self.vectors)?;
-        let reduced = interreduced(alloc, self.prime, &affine)?;
+        let reduced = interreduced_vectors(alloc, self.prime, &affine)?;
         Ok(List::of_vec(reduced))
     }
 }
@@ -184,7 +182,7 @@ fn all_lowered(
     vectors: &[Poly],
 ) -> Result<Vec<Poly>, NoMemory>
     requires six_variables { variables ≤ 6 }
-    requires homogeneous { All (IsHomogeneousPoly prime variables) (term_lists vectors.now) }
+    requires homogeneous { All (IsHomogeneousPoly prime variables) (terms_of vectors.now) }
     ensures value { IfOk result (λ fs. fs.items ≡ map (lowered_of prime) vectors.now) }
     ensures known { IfOk result (λ fs. All (λ f. IsVector prime f.terms) fs.items) }
 {

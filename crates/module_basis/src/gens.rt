@@ -2,10 +2,10 @@
 ghost use Rattle.std.specs.Prelude.{◌≡◌, ◌≤◌, IfOk, All, map};
 ghost use Rattle.monomials.specs.Mono.{total_degree};
 ghost use Rattle.polys.specs.Curve.{IsOver};
-ghost use Rattle.polys.specs.Poly.{IsPlain};
+ghost use Rattle.polys.specs.Poly.{IsPlain, terms_of};
 ghost use Rattle.polys.specs.Terms.{EachMono};
 ghost use Rattle.homogenising.specs.Homogenised.{all_homogenised};
-ghost use Rattle.module_basis.specs.Gens.{AreGens, term_lists, homogenised_of, lifted};
+ghost use Rattle.module_basis.specs.Gens.{AreGens, homogenised_of, lifted};
 
 use homogenising::laws::homogenising_is_undone;
 use lists::{List, NoMemory};
@@ -69,9 +69,9 @@ impl Gens {
         requires six_variables { variables ≤ 6 }
         requires ideal { All (IsOver prime variables) ideal.now }
         ensures ring { IfOk result (λ gens. (gens.prime ≡ prime) × (gens.variables ≡ variables) × (gens.shift ≡ 0)) }
-        ensures vectors { IfOk result (λ gens. term_lists gens.vectors ≡ all_homogenised (term_lists ideal.now)) }
+        ensures vectors { IfOk result (λ gens. terms_of gens.vectors ≡ all_homogenised (terms_of ideal.now)) }
         ensures gens { IfOk result (λ gens. AreGens gens) }
-        ensures plain { IfOk result (λ gens. All (EachMono IsPlain) (term_lists gens.vectors)) }
+        ensures plain { IfOk result (λ gens. All (EachMono IsPlain) (terms_of gens.vectors)) }
     {
         homogenising_is_undone();
         let mut vectors = List::new(alloc);

@@ -4,14 +4,15 @@ ghost use Rattle.polys.specs.declared.term.Term.{Term};
 ghost use Rattle.graded_modules.specs.Vector.{degree_at, lead_mono};
 ghost use Rattle.graded_modules.specs.Module.{InModule};
 ghost use Rattle.module_basis.specs.declared.gens.BasisStop.TheVariants.{Deep};
-ghost use Rattle.module_basis.specs.Gens.{AreGens, IsHomogeneousOver, term_lists};
-ghost use Rattle.module_basis.specs.Growing.{member, AreOfOneComponent, IsPair, IsSettledPair, IsAwaited, AreAwaited, IsGrowing, IsReady, GainsPairs, Gains, IsMemberAt, IsNewAt, IsBelowAll, HasHighLeads};
+ghost use Rattle.module_basis.specs.Gens.{AreGens, IsHomogeneousOver};
+ghost use Rattle.polys.specs.Poly.{terms_of};
+ghost use Rattle.module_division.specs.Vectors.{member};
+ghost use Rattle.module_basis.specs.Growing.{AreOfOneComponent, IsPair, IsSettledPair, IsAwaited, AreAwaited, IsGrowing, IsReady, GainsPairs, Gains, IsMemberAt, IsNewAt, IsBelowAll, HasHighLeads};
 
-use crate::division::remainder;
-use crate::leads::{degree_at, lead_mono};
 use crate::pairs::{Pair, are_coprime, is_chained, s_vector};
 use crate::{BasisStop, Gens};
 use lists::NoMemory;
+use module_division::{degree_at, lead_mono, vector_remainder};
 use monomials::Mono;
 use polys::{Poly, Term};
 use std::alloc::Global;
@@ -46,7 +47,7 @@ impl Growing {
         requires degree { e ≤ self.old.cap }
         requires ready { IsReady gens.now e self.old }
         ensures ready { OnOk result (IsReady gens.now (e + 1) self.new) }
-        ensures low { OnOk result (All (λ b. degree_at gens.now.shift (lead_mono b) ≤ e) (term_lists self.new.basis.items)) }
+        ensures low { OnOk result (All (λ b. degree_at gens.now.shift (lead_mono b) ≤ e) (terms_of self.new.basis.items)) }
         ensures cap { OnOk result (self.new.cap ≡ self.old.cap) }
         ensures deep { IfErr result (λ stop. stop ≡ Deep → HasHighLeads gens.now self.old.cap) }
     {
@@ -64,7 +65,7 @@ impl Growing {
         requires growing { IsGrowing gens.now e self.old }
         ensures growing { OnOk result (IsGrowing gens.now e self.new) }
         ensures gains { OnOk result (Gains gens.now e self.old self.new) }
-        ensures members { OnOk result ((f : List Term) → Contains (term_lists gens.now.vectors) f → degree_at gens.now.shift (lead_mono f) ≡ e → InModule gens.now.prime gens.now.variables (term_lists self.new.basis.items) f) }
+        ensures members { OnOk result ((f : List Term) → Contains (terms_of gens.now.vectors) f → degree_at gens.now.shift (lead_mono f) ≡ e → InModule gens.now.prime gens.now.variables (terms_of self.new.basis.items) f) }
         ensures deep { IfErr result (λ stop. stop ≡ Deep → HasHighLeads gens.now self.old.cap) }
     {
         let _modulus = gens.prime.get();
@@ -82,10 +83,10 @@ impl Growing {
         requires degree { e ≤ self.old.cap }
         requires growing { IsGrowing gens.now e self.old }
         requires vector { IsHomogeneousOver gens.now.prime gens.now.variables gens.now.shift v.now }
-        requires member { InModule gens.now.prime gens.now.variables (term_lists gens.now.vectors) v.now.terms }
+        requires member { InModule gens.now.prime gens.now.variables (terms_of gens.now.vectors) v.now.terms }
         ensures growing { OnOk result (IsGrowing gens.now e self.new) }
         ensures gains { OnOk result (Gains gens.now e self.old self.new) }
-        ensures member { OnOk result (degree_at gens.now.shift (lead_mono v.now.terms) ≡ e → InModule gens.now.prime gens.now.variables (term_lists self.new.basis.items) v.now.terms) }
+        ensures member { OnOk result (degree_at gens.now.shift (lead_mono v.now.terms) ≡ e → InModule gens.now.prime gens.now.variables (terms_of self.new.basis.items) v.now.terms) }
         ensures deep { IfErr result (λ stop. stop ≡ Deep → HasHighLeads gens.now self.old.cap) }
     {
         if degree_at(gens.shift, &lead_mono(v)) != u64::from(e) {
@@ -104,9 +105,9 @@ impl Growing {
         requires ready { IsReady gens.now e self.old }
         ensures growing { OnOk result (IsGrowing gens.now e self.new) }
         ensures cap { OnOk result (self.new.cap ≡ self.old.cap) }
-        ensures vectors { OnOk result ((b : List Term) → Contains (term_lists self.old.basis.items) b → Contains (term_lists self.new.basis.items) b) }
+        ensures vectors { OnOk result ((b : List Term) → Contains (terms_of self.old.basis.items) b → Contains (terms_of self.new.basis.items) b) }
         ensures late { OnOk result (All (λ q. e < q.degree) self.new.pairs.items) }
-        ensures awaited { OnOk result (AreAwaited gens.now self.old.cap (term_lists self.new.basis.items) self.new.pairs.items (length self.new.basis.items)) }
+        ensures awaited { OnOk result (AreAwaited gens.now self.old.cap (terms_of self.new.basis.items) self.new.pairs.items (length self.new.basis.items)) }
         ensures deep { IfErr result (λ stop. stop ≡ Deep → HasHighLeads gens.now self.old.cap) }
     {
         let _modulus = gens.prime.get();
@@ -124,11 +125,11 @@ impl Growing {
         requires cap { self.old.cap ≤ 1000 }
         requires low { e ≤ self.old.cap }
         requires growing { IsGrowing gens.now e self.old }
-        requires pair { IsPair gens.now.shift (term_lists self.old.basis.items) pair }
+        requires pair { IsPair gens.now.shift (terms_of self.old.basis.items) pair }
         requires degree { e ≤ pair.degree }
         ensures growing { OnOk result (IsGrowing gens.now e self.new) }
         ensures gains { OnOk result (Gains gens.now e self.old self.new) }
-        ensures done { OnOk result (IsSettledPair gens.now (term_lists self.new.basis.items) pair.first pair.second ⊎ Contains self.new.pairs.items pair) }
+        ensures done { OnOk result (IsSettledPair gens.now (terms_of self.new.basis.items) pair.first pair.second ⊎ Contains self.new.pairs.items pair) }
         ensures deep { IfErr result (λ stop. stop ≡ Deep → HasHighLeads gens.now self.old.cap) }
     {
         if pair.degree > u64::from(e) {
@@ -145,11 +146,11 @@ impl Growing {
         requires cap { self.old.cap ≤ 1000 }
         requires low { e ≤ self.old.cap }
         requires growing { IsGrowing gens.now e self.old }
-        requires pair { IsPair gens.now.shift (term_lists self.old.basis.items) pair }
+        requires pair { IsPair gens.now.shift (terms_of self.old.basis.items) pair }
         requires degree { pair.degree ≡ e }
         ensures growing { OnOk result (IsGrowing gens.now e self.new) }
         ensures gains { OnOk result (Gains gens.now e self.old self.new) }
-        ensures settled { OnOk result (IsSettledPair gens.now (term_lists self.new.basis.items) pair.first pair.second) }
+        ensures settled { OnOk result (IsSettledPair gens.now (terms_of self.new.basis.items) pair.first pair.second) }
         ensures deep { IfErr result (λ stop. stop ≡ Deep → HasHighLeads gens.now self.old.cap) }
     {
         let _modulus = gens.prime.get();
@@ -170,13 +171,13 @@ impl Growing {
         requires vector { IsMemberAt gens.now e v.items }
         ensures growing { OnOk result (IsGrowing gens.now e self.new) }
         ensures gains { OnOk result (Gains gens.now e self.old self.new) }
-        ensures member { OnOk result (InModule gens.now.prime gens.now.variables (term_lists self.new.basis.items) v.items) }
-        ensures below { OnOk result (IsBelowAll gens.now e (term_lists self.new.basis.items) v.items) }
+        ensures member { OnOk result (InModule gens.now.prime gens.now.variables (terms_of self.new.basis.items) v.items) }
+        ensures below { OnOk result (IsBelowAll gens.now e (terms_of self.new.basis.items) v.items) }
         ensures deep { IfErr result (λ stop. stop ≡ Deep → HasHighLeads gens.now self.old.cap) }
     {
         let _modulus = gens.prime.get();
         let alloc = *self.basis.allocator();
-        let rest = remainder(alloc, gens.prime, v, &self.basis)?;
+        let rest = vector_remainder(alloc, gens.prime, v, &self.basis)?;
         if rest.is_empty() {
             return Ok(());
         }
@@ -191,7 +192,7 @@ impl Growing {
         requires cap { self.old.cap ≤ 1000 }
         requires degree { e ≤ self.old.cap }
         requires growing { IsGrowing gens.now e self.old }
-        requires fresh { IsNewAt gens.now e (term_lists self.old.basis.items) b }
+        requires fresh { IsNewAt gens.now e (terms_of self.old.basis.items) b }
         ensures growing { OnOk result (IsGrowing gens.now e self.new) }
         ensures gains { OnOk result (Gains gens.now e self.old self.new) }
         ensures vectors { OnOk result (self.new.basis.items ≡ self.old.basis.items ++ b ∷ []) }
@@ -228,10 +229,10 @@ impl Growing {
         requires degree { e ≤ self.old.cap }
         requires growing { IsGrowing gens.now e self.old }
         requires some { 0 < length self.old.basis.items }
-        requires last { (k : _) → k + 1 ≡ length self.old.basis.items → degree_at gens.now.shift (lead_mono (member (term_lists self.old.basis.items) k)) ≡ e }
+        requires last { (k : _) → k + 1 ≡ length self.old.basis.items → degree_at gens.now.shift (lead_mono (member (terms_of self.old.basis.items) k)) ≡ e }
         ensures growing { OnOk result (IsGrowing gens.now e self.new) }
         ensures gains { OnOk result (GainsPairs e self.old self.new) }
-        ensures awaited { OnOk result ((i k : _) → k + 1 ≡ length self.old.basis.items → i < k → AreOfOneComponent (term_lists self.old.basis.items) i k → IsAwaited gens.now self.old.cap (term_lists self.old.basis.items) self.new.pairs.items i k) }
+        ensures awaited { OnOk result ((i k : _) → k + 1 ≡ length self.old.basis.items → i < k → AreOfOneComponent (terms_of self.old.basis.items) i k → IsAwaited gens.now self.old.cap (terms_of self.old.basis.items) self.new.pairs.items i k) }
         ensures deep { IfErr result (λ stop. stop ≡ Deep → HasHighLeads gens.now self.old.cap) }
     {
         let last = self.basis.len() - 1;
@@ -249,10 +250,10 @@ impl Growing {
         requires growing { IsGrowing gens.now e self.old }
         requires rising { first < second }
         requires inside { second < length self.old.basis.items }
-        requires last { degree_at gens.now.shift (lead_mono (member (term_lists self.old.basis.items) second)) ≡ e }
+        requires last { degree_at gens.now.shift (lead_mono (member (terms_of self.old.basis.items) second)) ≡ e }
         ensures growing { OnOk result (IsGrowing gens.now e self.new) }
         ensures gains { OnOk result (GainsPairs e self.old self.new) }
-        ensures awaited { OnOk result (AreOfOneComponent (term_lists self.old.basis.items) first second → IsAwaited gens.now self.old.cap (term_lists self.old.basis.items) self.new.pairs.items first second) }
+        ensures awaited { OnOk result (AreOfOneComponent (terms_of self.old.basis.items) first second → IsAwaited gens.now self.old.cap (terms_of self.old.basis.items) self.new.pairs.items first second) }
         ensures deep { IfErr result (λ stop. stop ≡ Deep → HasHighLeads gens.now self.old.cap) }
     {
         let _modulus = gens.prime.get();

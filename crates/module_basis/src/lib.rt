@@ -1,15 +1,11 @@
 //! Reduced bases of graded modules over F_p[x, h], or the answer that the module is deep under a cap.
 #![tactic(auto)]
 
-mod affine;
 mod basis;
-mod division;
 mod gens;
 mod growing;
-mod leads;
 mod pairs;
-mod reduction;
 
-pub use affine::{interreduced, remainder};
 pub use basis::{GradedBasis, graded_basis};
 pub use gens::{BasisStop, Gens};
+pub use module_division::{interreduced, remainder};

@@ -2,16 +2,16 @@
 ghost use Rattle.std.specs.Prelude.{◌≡◌, ◌↔◌, ◌+◌, ◌<◌, ◌≤◌, ℕ, [], ◌∷◌, length, All, IsTrue, IfOk};
 ghost use Rattle.monomials.specs.Mono.{total_degree, common_multiple, Divides, IsMono};
 ghost use Rattle.polys.specs.Terms.{EachMono, IsMonic};
-ghost use Rattle.polys.specs.Poly.{IsVector, IsPlain};
+ghost use Rattle.polys.specs.Poly.{IsVector, IsPlain, terms_of};
 ghost use Rattle.graded_modules.specs.Vector.{degree_at, lead_mono};
 ghost use Rattle.graded_modules.specs.SVector.{raised, lead_lcm, s_vector};
-ghost use Rattle.module_basis.specs.Gens.{AreGens, term_lists};
-ghost use Rattle.module_basis.specs.Division.{IsDivisor};
+ghost use Rattle.module_basis.specs.Gens.{AreGens};
+ghost use Rattle.module_division.specs.Division.{IsDivisor};
 ghost use Rattle.module_basis.specs.Growing.{IsPair, IsSettledPair, IsGrown};
 
 use crate::Gens;
-use crate::leads::{degree_at, lead_mono};
 use lists::NoMemory;
+use module_division::{degree_at, lead_mono};
 use monomials::Mono;
 use polys::{Poly, Term};
 use prime_field::Prime;
@@ -68,10 +68,10 @@ pub(crate) fn are_coprime(f: &Poly, g: &Poly, m: &Mono) -> bool
 // least common multiples of degrees below that of the pair.
 pub(crate) fn is_chained(gens: &Gens, basis: &[Poly], pair: Pair) -> bool
     requires gens { AreGens gens.now }
-    requires grown { IsGrown gens.now pair.degree (term_lists basis.now) }
+    requires grown { IsGrown gens.now pair.degree (terms_of basis.now) }
     requires low { pair.degree ≤ 1000 }
-    requires pair { IsPair gens.now.shift (term_lists basis.now) pair }
-    ensures { IsTrue result → IsSettledPair gens.now (term_lists basis.now) pair.first pair.second }
+    requires pair { IsPair gens.now.shift (terms_of basis.now) pair }
+    ensures { IsTrue result → IsSettledPair gens.now (terms_of basis.now) pair.first pair.second }
 {
     let _modulus = gens.prime.get();
     let a = lead_mono(&basis[pair.first]);

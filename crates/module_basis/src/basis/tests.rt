@@ -1,15 +1,15 @@
 // Values computed by hand modulo 7, in the variables x and y and the homogenising variable h.
 ghost use Rattle.std.specs.Prelude.{◌≡◌, ◌≤◌, ℕ, All, IsTrue, IfOk};
 ghost use Rattle.polys.specs.Curve.{IsOver};
-ghost use Rattle.polys.specs.Poly.{IsPlain};
+ghost use Rattle.polys.specs.Poly.{IsPlain, terms_of};
 ghost use Rattle.polys.specs.Terms.{EachMono};
 ghost use Rattle.graded_modules.specs.Vector.{IsGenerator};
-ghost use Rattle.module_basis.specs.Gens.{AreGens, IsHomogeneousOver, term_lists};
+ghost use Rattle.module_basis.specs.Gens.{AreGens, IsHomogeneousOver};
 
 use super::graded_basis;
-use crate::leads::{degree_at, lead_mono};
 use crate::{BasisStop, Gens, GradedBasis};
 use lists::List;
+use module_division::{degree_at, lead_mono};
 use monomials::Mono;
 use polys::{Poly, Term};
 use prime_field::Prime;
@@ -124,7 +124,7 @@ fn plain_gens(alloc: Global, p: Prime, rows: Rows) -> Result<Gens, Fail>
 
 // Whether all have one component.
 fn are_plain(fs: &[Poly]) -> bool
-    ensures { IsTrue result → All (EachMono IsPlain) (term_lists fs.now) }
+    ensures { IsTrue result → All (EachMono IsPlain) (terms_of fs.now) }
 {
     for k in 0..fs.len() {
         if !fs[k].is_plain() {

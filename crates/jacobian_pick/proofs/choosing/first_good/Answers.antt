@@ -1,7 +1,7 @@
 use Rattle.std.proofs.Common.{◌≡◌, subst, length, arith}
 use Rattle.std.specs.List.{All}
 use Rattle.std.proofs.lemmas.List.{take_all}
-use Rattle.module_basis.specs.Gens.{term_lists}
+use Rattle.polys.specs.Poly.{terms_of}
 use Rattle.jacobian_pick.specs.Choice.{IsGood}
 use Rattle.problem.specs.Problem.{problem_data}
 use Rattle.jacobian_pick.specs.declared.choosing.PickStop.TheVariants.{Memory}
@@ -20,4 +20,4 @@ loop-d-preserved c =
 
 pub returns-clause-none : goal.returns-clause-none
 returns-clause-none c =
-    λ e. subst (λ w. All (λ d. IsGood (problem_data c.args.problem.now) c.args.cap d → ⊥) (term_lists w)) (take_all c.loop-d.d-index c.args.list.now c.loop-d-test.false) c.loop-d.invariant
+    λ e. subst (λ w. All (λ d. IsGood (problem_data c.args.problem.now) c.args.cap d → ⊥) (terms_of w)) (take_all c.loop-d.d-index c.args.list.now c.loop-d-test.false) c.loop-d.invariant

@@ -1,6 +1,6 @@
 use Rattle.std.proofs.Common.{◌≡◌, ◌++◌, length, sym, subst}
 use Rattle.std.specs.List.{All}
-use Rattle.module_basis.specs.Gens.{term_lists}
+use Rattle.polys.specs.Poly.{terms_of}
 use Rattle.jacobian_pick.specs.Candidates.{AreCandidates, AreSecond, AreThird}
 use Rattle.jacobian_pick.specs.Lists.{IsUpTo}
 use Rattle.problem.specs.Problem.{problem_data}
@@ -20,7 +20,7 @@ returns-clause-exact c =
     let a = c.in_ok-append.ensures.items in
     let b = c.in_ok-append-2.ensures.items in
     let e : c.of_vec.result ≡ c.in_ok-first.first ++ c.in_ok-second.second ++ c.in_ok-third.third = cc in
-    subst (λ w. AreCandidates (problem_data c.args.problem.now) (term_lists w)) (sym e)
+    subst (λ w. AreCandidates (problem_data c.args.problem.now) (terms_of w)) (sym e)
     (all_candidates c.args.problem.now c.in_ok-first.first c.in_ok-second.second c.in_ok-third.third c.in_ok-first.ensures.exact
-    (subst (λ w. AreSecond (problem_data c.args.problem.now) (term_lists w) (term_lists c.in_ok-second.second)) c.as_slice.ensures c.in_ok-second.ensures.exact)
-    (subst (λ w. AreThird (problem_data c.args.problem.now) (term_lists w) (term_lists c.in_ok-third.third)) c.as_slice-2.ensures c.in_ok-third.ensures.exact))
+    (subst (λ w. AreSecond (problem_data c.args.problem.now) (terms_of w) (terms_of c.in_ok-second.second)) c.as_slice.ensures c.in_ok-second.ensures.exact)
+    (subst (λ w. AreThird (problem_data c.args.problem.now) (terms_of w) (terms_of c.in_ok-third.third)) c.as_slice-2.ensures c.in_ok-third.ensures.exact))

@@ -1,9 +1,9 @@
 use Rattle.std.proofs.Common.{◌≡◌, ◌++◌, take}
 use Rattle.std.specs.List.{flat_map}
-use Rattle.module_basis.specs.Gens.{term_lists}
+use Rattle.polys.specs.Poly.{terms_of}
 use Rattle.jacobian_pick.specs.Candidates.{number_sums}
 use Rattle.jacobian_pick.specs.Lists.{polynomials}
 use Rattle.jacobian_pick.proofs.sums.push_all_number_sums.Given as goal
 
 abbrev pub invariant-loop-g : goal.invariant-loop-g
-invariant-loop-g l = l.into ≡ l.fn.into ++ polynomials l.fn.prime (flat_map (number_sums l.fn.prime l.f.terms) (term_lists (take l.g-index l.others)))
+invariant-loop-g l = l.into ≡ l.fn.into ++ polynomials l.fn.prime (flat_map (number_sums l.fn.prime l.f.terms) (terms_of (take l.g-index l.others)))

@@ -4,8 +4,9 @@ use Rattle.denominator_module.specs.Module.{sum_members, colon_members}
 use Rattle.polys.specs.Terms.{degree_of}
 use Rattle.polys.specs.Ideal.{InIdeal}
 use Rattle.polys.specs.Reduced.{IsReducedBasis}
-use Rattle.module_basis.specs.Basis.{AreStandard}
-use Rattle.module_basis.specs.Gens.{IsHomogeneousOver, term_lists}
+use Rattle.module_division.specs.Ideals.{IsMonicStandardBasis}
+use Rattle.module_basis.specs.Gens.{IsHomogeneousOver}
+use Rattle.polys.specs.Poly.{terms_of}
 use Rattle.lift_colon.specs.Lifted.{IsLifted, HasModule}
 use Rattle.lift_colon.proofs.Bases.{vectors_over, sum_standard, colon_standard, colon_low, lifted}
 use Rattle.lift_colon.proofs.lifted.of_module.Goals as goal
@@ -29,31 +30,31 @@ colon_part-requires-clause-vectors c =
 pub interreduced-requires-clause-standard : goal.interreduced-requires-clause-standard
 interreduced-requires-clause-standard c =
     let q = c.requires in
-    subst (AreStandard c.args.prime c.args.variables) (sym c.as_slice.ensures)
+    subst (IsMonicStandardBasis c.args.prime c.args.variables) (sym c.as_slice.ensures)
     (sum_standard c.args.prime c.args.variables q.prime q.six_variables c.args.generators.now c.args.d.now q.generators q.denominator c.args.graded c.vectors-vectors.ensures.known q.ring.0 q.ring.1 q.ring.2 q.span q.low
-    c.in_ok-sums.sums c.in_ok-sums.ensures.primes (c.in_ok-sums.ensures.terms ∙ ap (λ w. sum_members c.args.prime (term_lists w)) c.vectors-vectors.ensures.value))
+    c.in_ok-sums.sums c.in_ok-sums.ensures.primes (c.in_ok-sums.ensures.terms ∙ ap (λ w. sum_members c.args.prime (terms_of w)) c.vectors-vectors.ensures.value))
 
 pub interreduced-requires-2-clause-standard : goal.interreduced-requires-2-clause-standard
 interreduced-requires-2-clause-standard c =
     let q = c.requires in
-    subst (AreStandard c.args.prime c.args.variables) (sym c.as_slice-2.ensures)
+    subst (IsMonicStandardBasis c.args.prime c.args.variables) (sym c.as_slice-2.ensures)
     (colon_standard c.args.prime c.args.variables q.prime q.six_variables c.args.generators.now c.args.d.now q.generators q.denominator c.args.graded c.vectors-vectors.ensures.known q.ring.0 q.ring.1 q.ring.2 q.span q.low
-    c.in_ok-colons.colons c.in_ok-colons.ensures.primes (c.in_ok-colons.ensures.terms ∙ ap (λ w. colon_members c.args.prime (term_lists w)) c.vectors-vectors.ensures.value))
+    c.in_ok-colons.colons c.in_ok-colons.ensures.primes (c.in_ok-colons.ensures.terms ∙ ap (λ w. colon_members c.args.prime (terms_of w)) c.vectors-vectors.ensures.value))
 
 pub invariant_of-result : goal.invariant_of-result
 invariant_of-result c =
     let q = c.requires in
-    let es = c.in_ok-sums.ensures.terms ∙ ap (λ w. sum_members c.args.prime (term_lists w)) c.vectors-vectors.ensures.value in
-    let ec = c.in_ok-colons.ensures.terms ∙ ap (λ w. colon_members c.args.prime (term_lists w)) c.vectors-vectors.ensures.value in
+    let es = c.in_ok-sums.ensures.terms ∙ ap (λ w. sum_members c.args.prime (terms_of w)) c.vectors-vectors.ensures.value in
+    let ec = c.in_ok-colons.ensures.terms ∙ ap (λ w. colon_members c.args.prime (terms_of w)) c.vectors-vectors.ensures.value in
     subst (λ d. IsLifted (record { prime = c.args.prime; variables = c.args.variables; denominator = d; ideal = c.args.ideal; sum = c.in_ok-sum.sum; colon = c.in_ok-colon.colon })
     × HasModule (record { prime = c.args.prime; variables = c.args.variables; denominator = d; ideal = c.args.ideal; sum = c.in_ok-sum.sum; colon = c.in_ok-colon.colon }) c.args.graded)
     (sym c.in_ok-clone_poly.ensures)
     (lifted c.args.prime c.args.variables q.prime q.six_variables c.args.generators.now c.args.d.now q.generators q.denominator c.args.graded c.vectors-vectors.ensures.known q.ring.0 q.ring.1 q.ring.2 q.span q.low
     c.args.ideal q.over q.ideal q.some_variables c.in_ok-sums.sums c.in_ok-colons.colons c.in_ok-sum.sum c.in_ok-colon.colon es ec
     c.in_ok-sum.ensures.over c.in_ok-colon.ensures.over
-    (subst (λ w. IsReducedBasis c.args.prime c.args.variables (InIdeal c.args.prime c.args.variables (term_lists w)) (term_lists c.in_ok-sum.sum)) c.as_slice.ensures c.in_ok-sum.ensures.basis)
-    (subst (λ w. IsReducedBasis c.args.prime c.args.variables (InIdeal c.args.prime c.args.variables (term_lists w)) (term_lists c.in_ok-colon.colon)) c.as_slice-2.ensures c.in_ok-colon.ensures.basis)
+    (subst (λ w. IsReducedBasis c.args.prime c.args.variables (InIdeal c.args.prime c.args.variables (terms_of w)) (terms_of c.in_ok-sum.sum)) c.as_slice.ensures c.in_ok-sum.ensures.basis)
+    (subst (λ w. IsReducedBasis c.args.prime c.args.variables (InIdeal c.args.prime c.args.variables (terms_of w)) (terms_of c.in_ok-colon.colon)) c.as_slice-2.ensures c.in_ok-colon.ensures.basis)
     (c.in_ok-colon.ensures.low 1000
-    (subst (λ w. All (λ f. degree_of f ≤ 1000) (term_lists w)) (sym c.as_slice-2.ensures)
+    (subst (λ w. All (λ f. degree_of f ≤ 1000) (terms_of w)) (sym c.as_slice-2.ensures)
     (colon_low c.args.prime c.args.variables q.prime q.six_variables c.args.generators.now c.args.d.now q.generators q.denominator c.args.graded c.vectors-vectors.ensures.known q.ring.0 q.ring.1 q.ring.2 q.span q.low
     c.in_ok-colons.colons ec))))

@@ -2,7 +2,8 @@ use Rattle.std.proofs.Common.{◌≡◌, ◌∷◌, sym, subst, arith}
 use Rattle.std.specs.List.{All}
 use Rattle.std.proofs.lemmas.Grind.{common_steps}
 use Rattle.denominator_module.specs.Module.{module_of}
-use Rattle.module_basis.specs.Gens.{IsHomogeneousOver, term_lists}
+use Rattle.module_basis.specs.Gens.{IsHomogeneousOver}
+use Rattle.polys.specs.Poly.{terms_of}
 use Rattle.lift_colon.proofs.Vectors.{module_over, all_at}
 use Rattle.lift_colon.proofs.parts.module_gens.Goals as goal
 
@@ -13,7 +14,7 @@ returns-clause-gens c =
     let whole : c.of_vec.result ≡ u ∷ g.vectors = grind (arith, common_steps) in
     let ring = c.in_ok-gens.ensures.ring in
     let over = all_at g.prime c.args.prime g.variables c.args.variables g.shift 0 g.vectors ring.0 ring.1 ring.2 c.in_ok-gens.ensures.gens.vectors in
-    let lists : term_lists (u ∷ g.vectors) ≡ module_of c.args.d.now.terms (term_lists c.args.ideal.now) =
+    let lists : terms_of (u ∷ g.vectors) ≡ module_of c.args.d.now.terms (terms_of c.args.ideal.now) =
     λ i. c.in_ok-unit_vector.ensures.terms i ∷ c.in_ok-gens.ensures.vectors i
     in
     record {

@@ -5,7 +5,7 @@ use Rattle.std.proofs.lemmas.List.Elements.{All-push}
 use Rattle.polys.specs.Poly.{Polynomial, IsVector}
 use Rattle.homogenising.specs.Laws.{IsHomogeneousPoly}
 use Rattle.module_basis.specs.Basis.{lowered_of}
-use Rattle.module_basis.proofs.Whole.{place_of}
+use Rattle.module_division.proofs.Lists.{place_of}
 use Rattle.module_basis.proofs.basis.all_lowered.Goals as goal
 
 pub with_variable_one-requires-clause-homogeneous : goal.with_variable_one-requires-clause-homogeneous

@@ -1,6 +1,7 @@
 use Rattle.std.proofs.Common.{arith, subst}
 use Rattle.prime_field.specs.Primes.{IsPrime}
-use Rattle.module_basis.proofs.Pairing.{linked, low_lead, count_lists}
+use Rattle.module_basis.proofs.Pairing.{linked, low_lead}
+use Rattle.module_division.proofs.Lists.{count_lists}
 use Rattle.module_basis.proofs.pairs.is_chained.Goals as goal
 
 pub is_link-requires-clause-room : goal.is_link-requires-clause-room

@@ -5,8 +5,8 @@ use Rattle.monomials.specs.Mono.{IsMono}
 use Rattle.graded_modules.specs.Vector.{lead_mono}
 use Rattle.graded_modules.specs.SVector.{cofactor}
 use Rattle.module_basis.proofs.Pairing.{quotient_is}
-use Rattle.module_basis.proofs.Steps.{divisor_room}
-use Rattle.module_basis.proofs.Reductions.{lead_seven}
+use Rattle.module_division.proofs.Steps.{divisor_room}
+use Rattle.module_division.proofs.Reductions.{lead_seven}
 use Rattle.monomials.proofs.Order.{times_comm}
 use Rattle.module_basis.proofs.pairs.raised.Goals as goal
 

@@ -2,7 +2,7 @@ use Rattle.std.proofs.Common.{sym, ◌∙◌, subst}
 use Rattle.monomials.specs.Mono.{IsMono, Divides, common_multiple}
 use Rattle.monomials.proofs.Factors.{lcm_law}
 use Rattle.graded_modules.specs.Vector.{lead_mono}
-use Rattle.module_basis.proofs.Reductions.{lead_seven}
+use Rattle.module_division.proofs.Reductions.{lead_seven}
 use Rattle.module_basis.proofs.pairs.s_vector.Goals as goal
 
 pub raised-requires-clause-divides : goal.raised-requires-clause-divides

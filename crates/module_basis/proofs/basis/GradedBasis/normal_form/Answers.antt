@@ -1,14 +1,13 @@
 use Rattle.std.proofs.Common.{◌≡◌, ℕ, List, sym, ap, ◌∙◌, subst}
 use Rattle.prime_field.specs.Primes.{IsPrime}
 use Rattle.polys.specs.declared.term.Term.{Term}
-use Rattle.polys.specs.Poly.{Polynomial}
+use Rattle.polys.specs.Poly.{Polynomial, terms_of}
 use Rattle.polys.specs.Terms.{EachMono}
 use Rattle.graded_modules.specs.Vector.{IsGradedVector, HasDegree}
 use Rattle.graded_modules.specs.Module.{IsLeadMultiple}
 use Rattle.graded_modules.specs.Bases.{IsNormalForm}
 use Rattle.module_basis.specs.declared.gens.Gens.{Gens}
-use Rattle.module_basis.specs.Gens.{term_lists}
-use Rattle.module_basis.specs.Division.{Reduces}
+use Rattle.module_division.specs.Division.{Reduces}
 use Rattle.module_basis.proofs.Whole.{normal_at}
 use Rattle.module_basis.proofs.basis.GradedBasis.normal_form.Goals as goal
 
@@ -21,9 +20,9 @@ returns-clause-normal c =
     let from : c.into_terms-terms.result.items ≡ v = c.into_terms-terms.ensures.value ∙ ap (λ (f : Polynomial). f.terms) c.in_ok-clone_poly.ensures in
     let out : c.of_terms.result.terms ≡ rest = ap (λ (f : Polynomial). f.terms) c.of_terms.ensures in
     let x = normal_at c.args.self.now b e c.self.invariant (subst IsPrime c.get-modulus.ensures.value c.get-modulus.ensures.prime) v rest c.requires.vector
-    (subst (λ xs. Reduces b.prime (term_lists xs) v rest) c.deref.ensures.value (subst (λ y. Reduces b.prime (term_lists c.deref.result.now) y rest) from c.in_ok-rest.ensures.reduces))
-    c.in_ok-rest.ensures.known (subst (λ xs. EachMono (λ m. IsLeadMultiple (term_lists xs) m → ⊥) rest) c.deref.ensures.value c.in_ok-rest.ensures.outside) in
-    subst (IsNormalForm c.args.self.now.prime c.args.self.now.variables (term_lists c.args.self.now.vectors) v) (sym out) x.0
+    (subst (λ xs. Reduces b.prime (terms_of xs) v rest) c.deref.ensures.value (subst (λ y. Reduces b.prime (terms_of c.deref.result.now) y rest) from c.in_ok-rest.ensures.reduces))
+    c.in_ok-rest.ensures.known (subst (λ xs. EachMono (λ m. IsLeadMultiple (terms_of xs) m → ⊥) rest) c.deref.ensures.value c.in_ok-rest.ensures.outside) in
+    subst (IsNormalForm c.args.self.now.prime c.args.self.now.variables (terms_of c.args.self.now.vectors) v) (sym out) x.0
 
 pub returns-clause-graded : goal.returns-clause-graded
 returns-clause-graded c =
@@ -34,8 +33,8 @@ returns-clause-graded c =
     let from : c.into_terms-terms.result.items ≡ v = c.into_terms-terms.ensures.value ∙ ap (λ (f : Polynomial). f.terms) c.in_ok-clone_poly.ensures in
     let out : c.of_terms.result.terms ≡ rest = ap (λ (f : Polynomial). f.terms) c.of_terms.ensures in
     let x = normal_at c.args.self.now b e c.self.invariant (subst IsPrime c.get-modulus.ensures.value c.get-modulus.ensures.prime) v rest c.requires.vector
-    (subst (λ xs. Reduces b.prime (term_lists xs) v rest) c.deref.ensures.value (subst (λ y. Reduces b.prime (term_lists c.deref.result.now) y rest) from c.in_ok-rest.ensures.reduces))
-    c.in_ok-rest.ensures.known (subst (λ xs. EachMono (λ m. IsLeadMultiple (term_lists xs) m → ⊥) rest) c.deref.ensures.value c.in_ok-rest.ensures.outside) in
+    (subst (λ xs. Reduces b.prime (terms_of xs) v rest) c.deref.ensures.value (subst (λ y. Reduces b.prime (terms_of c.deref.result.now) y rest) from c.in_ok-rest.ensures.reduces))
+    c.in_ok-rest.ensures.known (subst (λ xs. EachMono (λ m. IsLeadMultiple (terms_of xs) m → ⊥) rest) c.deref.ensures.value c.in_ok-rest.ensures.outside) in
     subst (IsGradedVector c.args.self.now.prime c.args.self.now.variables) (sym out) x.1
 
 pub returns-clause-degree : goal.returns-clause-degree
@@ -47,6 +46,6 @@ returns-clause-degree c =
     let from : c.into_terms-terms.result.items ≡ v = c.into_terms-terms.ensures.value ∙ ap (λ (f : Polynomial). f.terms) c.in_ok-clone_poly.ensures in
     let out : c.of_terms.result.terms ≡ rest = ap (λ (f : Polynomial). f.terms) c.of_terms.ensures in
     let x = normal_at c.args.self.now b e c.self.invariant (subst IsPrime c.get-modulus.ensures.value c.get-modulus.ensures.prime) v rest c.requires.vector
-    (subst (λ xs. Reduces b.prime (term_lists xs) v rest) c.deref.ensures.value (subst (λ y. Reduces b.prime (term_lists c.deref.result.now) y rest) from c.in_ok-rest.ensures.reduces))
-    c.in_ok-rest.ensures.known (subst (λ xs. EachMono (λ m. IsLeadMultiple (term_lists xs) m → ⊥) rest) c.deref.ensures.value c.in_ok-rest.ensures.outside) in
+    (subst (λ xs. Reduces b.prime (terms_of xs) v rest) c.deref.ensures.value (subst (λ y. Reduces b.prime (terms_of c.deref.result.now) y rest) from c.in_ok-rest.ensures.reduces))
+    c.in_ok-rest.ensures.known (subst (λ xs. EachMono (λ m. IsLeadMultiple (terms_of xs) m → ⊥) rest) c.deref.ensures.value c.in_ok-rest.ensures.outside) in
     subst (λ (r : List Term). (e : ℕ) → HasDegree c.args.self.now.shift e v → HasDegree c.args.self.now.shift e r) (sym out) x.2

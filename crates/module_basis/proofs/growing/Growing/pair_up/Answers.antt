@@ -1,7 +1,7 @@
 use Rattle.std.proofs.Common.{◌≡◌, ◌-◌, sym, subst, arith}
 use Rattle.std.specs.List.{Contains}
 use Rattle.std.proofs.lemmas.List.Elements.{Contains-append_left}
-use Rattle.module_basis.specs.Gens.{term_lists}
+use Rattle.polys.specs.Poly.{terms_of}
 use Rattle.module_basis.specs.Growing.{AreOfOneComponent, IsAwaited}
 use Rattle.module_basis.proofs.Joining.{gains_then, awaited_next, awaited_same}
 use Rattle.module_basis.proofs.growing.Growing.pair_up.Goals as goal
@@ -17,7 +17,7 @@ loop-first-preserved c =
     record {
       growing = c.in_ok-join.ensures.growing;
       gains = gains_then c.args.e old now new inv.gains g;
-      awaited = awaited_next gens old.cap c.loop-first.first (c.len-last.result - 1) (term_lists old.basis.items) now.pairs.items new.pairs.items
+      awaited = awaited_next gens old.cap c.loop-first.first (c.len-last.result - 1) (terms_of old.basis.items) now.pairs.items new.pairs.items
           (λ q h. subst (λ l. Contains l q) (sym g.pairs) (Contains-append_left now.pairs.items g.more q h)) inv.awaited
           (awaited_same gens now.basis.items old.basis.items now.cap old.cap c.loop-first.first (c.len-last.result - 1) new.pairs.items inv.gains.vectors inv.gains.cap c.in_ok-join.ensures.awaited);
     }
@@ -27,5 +27,5 @@ returns-clause-awaited c i k h l one =
     let e = c.len-last.ensures in
     let t = c.loop-first-test.false in
     let q : k ≡ c.len-last.result - 1 = omega (arith, c.len-last.ensures) in
-    subst (λ j. IsAwaited c.args.gens.now c.args.self.now.cap (term_lists c.args.self.now.basis.items) c.loop-first.self.pairs.items i j) (sym q)
-    (c.loop-first.invariant.awaited i (omega arith) (subst (AreOfOneComponent (term_lists c.args.self.now.basis.items) i) q one))
+    subst (λ j. IsAwaited c.args.gens.now c.args.self.now.cap (terms_of c.args.self.now.basis.items) c.loop-first.self.pairs.items i j) (sym q)
+    (c.loop-first.invariant.awaited i (omega arith) (subst (AreOfOneComponent (terms_of c.args.self.now.basis.items) i) q one))

@@ -1,5 +1,5 @@
 use Rattle.std.proofs.Common.{ℕ, ◌<◌}
-use Rattle.module_basis.specs.Gens.{term_lists}
+use Rattle.polys.specs.Poly.{terms_of}
 use Rattle.module_basis.specs.Growing.{AreOfOneComponent, IsAwaited, IsGrowing, GainsPairs}
 use Rattle.module_basis.proofs.growing.Growing.pair_up.Given as goal
 
@@ -7,6 +7,6 @@ abbrev pub invariant-loop-first : goal.invariant-loop-first
 invariant-loop-first l = record {
   growing : IsGrowing l.gens l.e l.self;
   gains : GainsPairs l.e l.fn.self l.self;
-  awaited : (i : ℕ) → i < l.first → AreOfOneComponent (term_lists l.fn.self.basis.items) i l.last
-      → IsAwaited l.gens l.fn.self.cap (term_lists l.fn.self.basis.items) l.self.pairs.items i l.last;
+  awaited : (i : ℕ) → i < l.first → AreOfOneComponent (terms_of l.fn.self.basis.items) i l.last
+      → IsAwaited l.gens l.fn.self.cap (terms_of l.fn.self.basis.items) l.self.pairs.items i l.last;
 }

@@ -1,10 +1,10 @@
 use Rattle.std.proofs.Common.{sym, ◌∙◌, subst, arith}
 use Rattle.prime_field.specs.Primes.{IsPrime}
 use Rattle.graded_modules.specs.SVector.{s_vector}
-use Rattle.module_basis.specs.Gens.{term_lists}
-use Rattle.module_basis.specs.Division.{IsDivisor}
+use Rattle.polys.specs.Poly.{terms_of}
+use Rattle.module_division.specs.Division.{IsDivisor}
 use Rattle.module_basis.specs.Growing.{IsMemberAt, IsBelowAll}
-use Rattle.module_basis.proofs.Pairing.{member_is, count_lists}
+use Rattle.module_division.proofs.Lists.{member_is, count_lists}
 use Rattle.module_basis.proofs.Growth.{divisors}
 use Rattle.module_basis.proofs.Adding.{nothing_gained, s_member, s_settled}
 use Rattle.module_basis.proofs.growing.Growing.settle.Goals as goal
@@ -60,5 +60,5 @@ returns-clause-settled c =
     let g = c.in_ok-take.ensures.gains in
     s_settled gens c.args.e (omega arith) (subst IsPrime c.get-modulus.ensures.value c.get-modulus.ensures.prime) c.args.self.now c.requires.growing c.args.pair c.requires.pair c.requires.degree
     c.take.new.self.basis.items g.more g.vectors
-    (subst (IsBelowAll gens c.args.e (term_lists c.take.new.self.basis.items))
+    (subst (IsBelowAll gens c.args.e (terms_of c.take.new.self.basis.items))
     (c.into_terms.ensures.value ∙ c.in_ok-s.ensures.value ∙ (λ x. s_vector gens.prime (sym mi x) (sym mj x))) c.in_ok-take.ensures.below)

@@ -2,10 +2,10 @@ use Rattle.std.proofs.Common.{◌≡◌, ◌<◌, ◌≤◌, [], ◌++◌, lengt
 use Rattle.std.specs.List.{All}
 use Rattle.std.proofs.Math.ListN.{drop_of_length-le}
 use Rattle.std.proofs.lemmas.List.Elements.{All-nil, All-append}
-use Rattle.module_basis.specs.Gens.{term_lists}
+use Rattle.polys.specs.Poly.{terms_of}
 use Rattle.module_basis.specs.declared.pairs.Pair.{Pair}
 use Rattle.module_basis.specs.Growing.{IsPair, AreAwaited}
-use Rattle.module_basis.proofs.Growth.{contains_more}
+use Rattle.module_division.proofs.Lists.{contains_more}
 use Rattle.module_basis.proofs.Advancing.{gone_on, pairs_still}
 use Rattle.module_basis.proofs.growing.Growing.settle_pairs.Goals as goal
 
@@ -13,7 +13,7 @@ pub loop-k-init : goal.loop-k-init
 loop-k-init c =
     let gens = c.args.gens.now in
     let old = c.args.self.now in
-    let bs = term_lists old.basis.items in
+    let bs = terms_of old.basis.items in
     let r = c.requires.ready in
     let none : c.replace-waiting.new.dest.items ≡ [] = ap (λ w. w.items) c.replace-waiting.ensures.after ∙ c.new.ensures.items in
     let all : c.replace-waiting.result.items ≡ old.pairs.items = ap (λ w. w.items) c.replace-waiting.ensures.value in
@@ -57,4 +57,4 @@ returns-clause-awaited c =
     let done : length W ≤ c.loop-k.k = omega arith in
     let none : c.loop-k.self.pairs.items ++ drop c.loop-k.k W ≡ c.loop-k.self.pairs.items =
     ap (λ ps. c.loop-k.self.pairs.items ++ ps) (drop_of_length-le W done) ∙ append-nil c.loop-k.self.pairs.items in
-    subst (λ ps. AreAwaited c.args.gens.now c.args.self.now.cap (term_lists c.loop-k.self.basis.items) ps (length c.loop-k.self.basis.items)) none c.loop-k.invariant.awaited
+    subst (λ ps. AreAwaited c.args.gens.now c.args.self.now.cap (terms_of c.loop-k.self.basis.items) ps (length c.loop-k.self.basis.items)) none c.loop-k.invariant.awaited

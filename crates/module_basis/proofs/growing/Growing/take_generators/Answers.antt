@@ -2,11 +2,11 @@ use Rattle.std.proofs.Common.{◌≡◌, inl, inr, ◌≤◌, length, get_or, sy
 use Rattle.std.proofs.Math.Nat.{eq-or-lt_of_le}
 use Rattle.std.proofs.lemmas.List.{get_or-map, get_or_default}
 use Rattle.prime_field.specs.Primes.{IsPrime}
-use Rattle.polys.specs.Poly.{Polynomial}
+use Rattle.polys.specs.Poly.{Polynomial, terms_of}
 use Rattle.graded_modules.specs.Vector.{degree_at, lead_mono}
 use Rattle.graded_modules.specs.Module.{InModule}
-use Rattle.module_basis.specs.Gens.{IsHomogeneousOver, term_lists}
-use Rattle.module_basis.proofs.Pairing.{count_lists}
+use Rattle.module_basis.specs.Gens.{IsHomogeneousOver}
+use Rattle.module_division.proofs.Lists.{count_lists}
 use Rattle.module_basis.proofs.Adding.{nothing_gained, gained_twice, in_still}
 use Rattle.module_basis.proofs.Advancing.{generator_in}
 use Rattle.module_basis.proofs.growing.Growing.take_generators.Goals as goal
@@ -54,7 +54,7 @@ loop-k-preserved c =
           elim (eq-or-lt_of_le le) [
             | inl s ↦
                 let at : get_or vs j d ≡ c.index-vectors-k.result = ap (λ m. get_or vs m d) s ∙ here d in
-                subst (λ (f : Polynomial). InModule gens.prime gens.variables (term_lists new.basis.items) f.terms) (sym at)
+                subst (λ (f : Polynomial). InModule gens.prime gens.variables (terms_of new.basis.items) f.terms) (sym at)
                 (c.in_ok-take_generator.ensures.member (subst (λ (f : Polynomial). degree_at gens.shift (lead_mono f.terms) ≡ e) at q))
             | inr l ↦ in_still gens e now.basis.items new.basis.items g.more (get_or vs j d).terms prime g.vectors c.in_ok-take_generator.ensures.growing.grown (inv.members j d l q)
           ];
@@ -69,5 +69,5 @@ returns-clause-members c f (k, l, e) q =
     let d : Polynomial = record { prime = 0; terms = f } in
     let at : (get_or vs k d).terms ≡ f =
     ap (λ xs. (get_or xs k d).terms) c.as_slice-vectors.ensures ∙ sym (get_or-map (λ (g : Polynomial). g.terms) gens.vectors k d f (omega arith)) ∙ e in
-    subst (InModule gens.prime gens.variables (term_lists c.loop-k.self.basis.items)) at
+    subst (InModule gens.prime gens.variables (terms_of c.loop-k.self.basis.items)) at
     (c.loop-k.invariant.members k d (omega arith) (subst (λ g. degree_at gens.shift (lead_mono g) ≡ c.args.e) (sym at) q))

@@ -1,0 +1,3 @@
+-- for the examples alone
+mod CuspDimension
+mod CuspRings

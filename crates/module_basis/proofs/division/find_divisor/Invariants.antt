@@ -1,5 +1,0 @@
-use Rattle.module_basis.proofs.Steps.{NoneBelow}
-use Rattle.module_basis.proofs.division.find_divisor.Given as goal
-
-abbrev pub invariant-loop-i : goal.invariant-loop-i
-invariant-loop-i l = NoneBelow l.divisors l.m l.i

@@ -1,5 +1,0 @@
-use Rattle.module_basis.proofs.Cores.{IsCoreSoFar}
-use Rattle.module_basis.proofs.reduction.without_superfluous.Given as goal
-
-abbrev pub invariant-loop-k : goal.invariant-loop-k
-invariant-loop-k l = IsCoreSoFar l.vectors l.kept.items l.k

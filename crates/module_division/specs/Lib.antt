@@ -1,0 +1,6 @@
+-- cited by public clauses
+pub mod Vectors
+pub mod Division
+pub mod Ideals
+-- steps of the code
+pub mod Reduction

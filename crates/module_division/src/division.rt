@@ -1,0 +1,160 @@
+// The full division of a vector by monic ones.
+ghost use Rattle.std.specs.Prelude.{◌≡◌, ◌+◌, ◌<◌, ◌≤◌, [], ◌∷◌, ◌++◌, length, map, All, IfOk, OnOk, MatchOption, slice_index_or};
+ghost use Rattle.monomials.specs.Mono.{total_degree, Divides, IsMono};
+ghost use Rattle.prime_field.specs.Primes.{IsPrime};
+ghost use Rattle.polys.specs.Terms.{EachMono, add, mul, degree_of};
+ghost use Rattle.polys.specs.Poly.{IsVector, IsPlain, terms_of};
+ghost use Rattle.graded_modules.specs.Vector.{lead_mono};
+ghost use Rattle.graded_modules.specs.Module.{IsLeadMultiple};
+ghost use Rattle.module_division.specs.Division.{IsDivisor, Reduces, term_product};
+
+use crate::leads::lead_mono;
+use monomials::Mono;
+use polys::{Poly, Term};
+use prime_field::Prime;
+use std::alloc::{AllocError, Global};
+use std::cmp::Ordering;
+use std::mem;
+
+// The number of the first vector whose lead divides the monomial.
+pub(crate) fn find_divisor(divisors: &[Poly], m: &Mono) -> Option<usize>
+    ensures { MatchOption result (IsLeadMultiple (terms_of divisors.now) m.now → ⊥) (λ k. (k < length divisors.now) × ((d : _) → Divides (lead_mono (slice_index_or divisors.now k d).terms) m.now)) }
+{
+    for i in 0..divisors.len() {
+        if Mono::divides(&lead_mono(&divisors[i]), m) {
+            return Some(i);
+        }
+    }
+    None
+}
+
+// The product of two terms, of which the second has component 0.
+fn term_product(p: Prime, u: &Term, t: &Term) -> Term
+    requires left { u.now.coeff < p }
+    requires right { t.now.coeff < p }
+    requires plain { IsPlain t.now.mono }
+    requires room { total_degree u.now.mono.exponents + total_degree t.now.mono.exponents ≤ 60000 }
+    ensures { result ≡ term_product p t.now u.now }
+{
+    Term {
+        coeff: p.mul(u.coeff, t.coeff),
+        mono: Mono::product(&u.mono, &t.mono),
+    }
+}
+
+// Puts the products of t and the terms at the end of `out`.
+fn append_multiple(
+    p: Prime,
+    t: &Term,
+    terms: &[Term],
+    out: &mut Vec<Term>,
+) -> Result<(), AllocError>
+    requires terms { IsVector p terms.now }
+    requires residue { t.now.coeff < p }
+    requires plain { IsPlain t.now.mono }
+    requires room { degree_of terms.now + total_degree t.now.mono.exponents ≤ 60000 }
+    ensures { OnOk result (out.new.items ≡ out.old.items ++ map (term_product p t.now) terms.now) }
+{
+    for u in terms {
+        out.push(term_product(p, u, t))?;
+    }
+    Ok(())
+}
+
+// Writes a + t b into `out`, by one merge that takes one step for each term of both.
+fn add_multiple(
+    p: Prime,
+    a: &[Term],
+    t: &Term,
+    b: &[Term],
+    out: &mut Vec<Term>,
+) -> Result<(), AllocError>
+    requires prime { IsPrime p }
+    requires left { IsVector p a.now }
+    requires right { IsVector p b.now }
+    requires residue { t.now.coeff < p }
+    requires not_zero { 0 < t.now.coeff }
+    requires mono { IsMono t.now.mono }
+    requires plain { IsPlain t.now.mono }
+    requires room { degree_of b.now + total_degree t.now.mono.exponents ≤ 60000 }
+    ensures value { OnOk result (out.new.items ≡ add p a.now (mul p b.now (t.now ∷ []))) }
+    ensures known { OnOk result (IsVector p out.new.items) }
+{
+    out.clear();
+    let mut i: usize = 0;
+    let mut j: usize = 0;
+    while i < a.len() && j < b.len() {
+        let s = a[i];
+        let u = term_product(p, &b[j], t);
+        match Mono::cmp_dp(&s.mono, &u.mono) {
+            Ordering::Greater => {
+                out.push(s)?;
+                i += 1;
+            }
+            Ordering::Less => {
+                out.push(u)?;
+                j += 1;
+            }
+            Ordering::Equal => {
+                let coeff = p.add(s.coeff, u.coeff);
+                if coeff != 0 {
+                    out.push(Term {
+                        coeff,
+                        mono: s.mono,
+                    })?;
+                }
+                i += 1;
+                j += 1;
+            }
+        }
+    }
+    out.extend_from_slice(&a[i..])?;
+    append_multiple(p, t, &b[j..], out)?;
+    Ok(())
+}
+
+/// What is left of the vector `v` when the leads of the divisors divide no monomial any more. The divisors are monic, and
+/// no monomial of one has more degree than its lead, with unit vectors not counted.
+///
+/// It works in two buffers. Each step takes away one monomial: it looks at the divisors' leads until one divides it, and
+/// then merges what is left with a multiple of that divisor, one step for each term of both.
+///
+/// Greuel and Pfister, section on normal forms.
+pub fn vector_remainder(
+    alloc: Global,
+    p: Prime,
+    v: Vec<Term>,
+    divisors: &[Poly],
+) -> Result<Vec<Term>, AllocError>
+    requires vector { IsVector p v.items }
+    requires divisors { All (IsDivisor p) divisors.now }
+    ensures reduces { IfOk result (λ r. Reduces p (terms_of divisors.now) v.items r.items) }
+    ensures known { IfOk result (λ r. IsVector p r.items) }
+    ensures outside { IfOk result (λ r. EachMono (λ m. IsLeadMultiple (terms_of divisors.now) m → ⊥) r.items) }
+{
+    let _modulus = p.get();
+    let mut rest = v;
+    let mut next = Vec::new(alloc);
+    let mut out = Vec::new(alloc);
+    let mut i: usize = 0;
+    while i < rest.len() {
+        let t = rest[i];
+        match find_divisor(divisors, &t.mono) {
+            None => {
+                out.push(t)?;
+                i += 1;
+            }
+            Some(k) => {
+                let b = &divisors[k];
+                let factor = Term {
+                    coeff: p.neg(t.coeff),
+                    mono: Mono::quotient(&t.mono, &lead_mono(b)),
+                };
+                add_multiple(p, &rest[i..], &factor, b.terms(), &mut next)?;
+                mem::swap(&mut rest, &mut next);
+                i = 0;
+            }
+        }
+    }
+    Ok(out)
+}
