@@ -10,7 +10,7 @@ use Rattle.polys.proofs.Weights.{weigh, Alike, weigh-append, normal_ext, mod_plu
 use Rattle.polys.proofs.Sums.{mul_normal_left, add_normal_left, add_normal_right}
 use Rattle.polys.proofs.Units.{canonical_same}
 use Rattle.polys.proofs.Affine.{poly_none, poly_one, poly_add, poly_mul, poly_normal}
-use Rattle.polys.proofs.Ideals.{in_none, in_add, in_mul, in_larger}
+use Rattle.ideal_laws.proofs.Ideals.{in_none, in_add, in_mul, in_larger}
 use Rattle.curve_model.specs.Fraction.{IsFraction, InA, over, sum_of}
 use Rattle.curve_model.specs.Local.{LocalAt}
 use Rattle.curve_model.specs.Closure.{Suffices}

@@ -12,8 +12,8 @@ use Rattle.polys.specs.Terms.{IsPoly, IsMonic}
 use Rattle.polys.specs.Ideal.{InIdeal}
 use Rattle.polys.specs.Reduced.{Reduced, leads, lower_monos, IsLead, IsMinimalLead}
 use Rattle.polys.proofs.Weights.{weigh, canon, same, tie, at_head}
-use Rattle.polys.proofs.Ideals.{in_head, in_more, in_poly}
-use Rattle.polys.proofs.Unique.{contains_head, contains_tail, contains_cases, contains_none}
+use Rattle.ideal_laws.proofs.Ideals.{in_head, in_more, in_poly}
+use Rattle.ideal_laws.proofs.Unique.{contains_head, contains_tail, contains_cases, contains_none}
 use Rattle.curve_model.specs.Examples.{term_of, conductor}
 use Rattle.curve_model.proofs.Cusp.{poly_of_term}
 use Rattle.curve_model.proofs.TwoVariables.{mono_of, exponents_of}

@@ -9,7 +9,7 @@ use Rattle.polys.specs.Terms.{EachMono, IsAffine, IsPoly, mul, sub, multiple, sc
 use Rattle.polys.proofs.Weights.{weigh, weigh-append, weigh-normal, mod_plus}
 use Rattle.polys.proofs.Units.{weigh-scaled}
 use Rattle.polys.proofs.Affine.{poly_normal, poly_mul, poly_sub}
-use Rattle.polys.proofs.Unique.{contains_head}
+use Rattle.ideal_laws.proofs.Unique.{contains_head}
 use Rattle.curve_model.specs.Fraction.{Fraction, IsFraction, EqualsOver, denominator_power, over}
 use Rattle.curve_model.specs.Integral.{Integral}
 use Rattle.curve_model.specs.Local.{LocalAt}

@@ -10,8 +10,8 @@ use Rattle.polys.specs.Curve.{CurveData, data_of}
 use Rattle.polys.proofs.Sums.{mul_assoc, mul_comm}
 use Rattle.polys.proofs.Units.{mul_one}
 use Rattle.polys.proofs.Affine.{poly_none, poly_one, poly_mul, sevens_of, poly_product}
-use Rattle.polys.proofs.Ideals.{in_mul, in_none}
-use Rattle.polys.proofs.Unique.{contains_cases, contains_none, contains_head, contains_tail}
+use Rattle.ideal_laws.proofs.Ideals.{in_mul, in_none}
+use Rattle.ideal_laws.proofs.Unique.{contains_cases, contains_none, contains_head, contains_tail}
 use Rattle.curve_model.specs.Fraction.{Fraction, IsFraction, InA, denominator_power, sum_of}
 use Rattle.curve_model.specs.Local.{Local, LocalAt, AreMembers, TakesIntoA}
 use Rattle.curve_model.specs.Laws.{IsFinite, ArePolys, SumOfParts, total}

@@ -3,7 +3,7 @@ use Rattle.std.proofs.Common.{◌≡◌, ℕ, ◌+◌, suc, [], ◌∷◌, refl,
 use Rattle.std.proofs.lemmas.List.Elements.{All-nil, All-cons}
 use Rattle.polys.specs.Ideal.{InIdeal}
 use Rattle.polys.proofs.Weights.{weigh}
-use Rattle.polys.proofs.Ideals.{in_head}
+use Rattle.ideal_laws.proofs.Ideals.{in_head}
 use Rattle.curve_model.specs.Examples.{term_of, axes, AxesAreNotRegular}
 use Rattle.curve_model.proofs.Cusp.{poly_of_term}
 use Rattle.curve_model.proofs.Origin.{is_zero}

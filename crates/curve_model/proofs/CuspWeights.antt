@@ -11,7 +11,7 @@ use Rattle.polys.proofs.Weights.{weigh, Alike, weigh-append, weigh-normal, norma
 use Rattle.polys.proofs.Sums.{weigh-products, mul_normal_left}
 use Rattle.polys.proofs.Units.{canonical_same}
 use Rattle.polys.proofs.Affine.{poly_normal}
-use Rattle.polys.proofs.Ideals.{in_none, in_add, in_mul, in_head, in_poly}
+use Rattle.ideal_laws.proofs.Ideals.{in_none, in_add, in_mul, in_head, in_poly}
 use Rattle.curve_model.specs.Fraction.{denominator_power}
 use Rattle.curve_model.specs.Examples.{term_of, cusp, ProductIsNotWhole, CuspIsRegular}
 use Rattle.curve_model.proofs.Cusp.{poly_of_term}
