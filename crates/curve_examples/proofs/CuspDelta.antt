@@ -9,9 +9,9 @@ use Rattle.polys.specs.Terms.{sub, multiple, normal}
 use Rattle.polys.specs.Ideal.{InIdeal, IsSpanned, number_combination}
 use Rattle.polys.proofs.Weights.{weigh, weigh-append, weigh-normal, mod_plus}
 use Rattle.polys.proofs.Sums.{normal_normal}
-use Rattle.polys.proofs.Multiples.{mod_times, weigh-multiple}
-use Rattle.polys.proofs.Ideals.{in_poly}
-use Rattle.polys.proofs.Unique.{contains_head}
+use Rattle.ideal_laws.proofs.Multiples.{mod_times, weigh-multiple}
+use Rattle.ideal_laws.proofs.Ideals.{in_poly}
+use Rattle.ideal_laws.proofs.Unique.{contains_head}
 use Rattle.curve_model.specs.Fraction.{Fraction, IsFraction, over}
 use Rattle.curve_model.specs.Local.{Local, LocalAt}
 use Rattle.curve_model.specs.Closure.{InModule}
