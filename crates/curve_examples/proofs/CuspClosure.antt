@@ -108,7 +108,7 @@ in_of_order f h o = subst (InIdeal 7 2 conductor) (sym equal)
 abbrev Good : List Term → Type 0
 Good b = LocalAt cusp (origin ∷ []) (over b 1)
 
-ring : IsFractionRing cusp (LocalAt cusp (origin ∷ []))
+pub ring : IsFractionRing cusp (LocalAt cusp (origin ∷ []))
 ring = local_ring_law cusp cusp_is_finite (origin ∷ []) origin_list
 
 good_whole : (b : List Term) → IsPoly 7 2 b → InA cusp (over b 1) → Good b
@@ -117,8 +117,9 @@ good_whole b h i = whole_at cusp cusp_is_finite (origin ∷ []) origin_list (ove
 good_none : Good []
 good_none = good_whole [] (poly_none 7 2) ([], poly_none 7 2, in_none 7 2 cusp.ideal)
 
-good_y2 : Good (term_of 1 0 2 ∷ [])
-good_y2 = good_whole (term_of 1 0 2 ∷ []) (poly_of_term 1 0 2 (omega arith) (omega arith)) (
+-- y^2 over d is x, and x^2 over d is 1
+pub y2_whole : InA cusp (over (term_of 1 0 2 ∷ []) 1)
+y2_whole = (
   term_of 1 1 0 ∷ [],
   poly_of_term 1 1 0 (omega arith) (omega arith),
   record {
@@ -129,8 +130,14 @@ good_y2 = good_whole (term_of 1 0 2 ∷ []) (poly_of_term 1 0 2 (omega arith) (o
   },
 )
 
+pub x2_whole : InA cusp (over (term_of 1 2 0 ∷ []) 1)
+x2_whole = (one, poly_one 7 2 (omega arith), in_none 7 2 cusp.ideal)
+
+good_y2 : Good (term_of 1 0 2 ∷ [])
+good_y2 = good_whole (term_of 1 0 2 ∷ []) (poly_of_term 1 0 2 (omega arith) (omega arith)) y2_whole
+
 good_x2 : Good (term_of 1 2 0 ∷ [])
-good_x2 = good_whole (term_of 1 2 0 ∷ []) (poly_of_term 1 2 0 (omega arith) (omega arith)) (one, poly_one 7 2 (omega arith), in_none 7 2 cusp.ideal)
+good_x2 = good_whole (term_of 1 2 0 ∷ []) (poly_of_term 1 2 0 (omega arith) (omega arith)) x2_whole
 
 good_add : (b c : List Term) → IsPoly 7 2 b → IsPoly 7 2 c → Good b → Good c → Good (add 7 b c)
 good_add b c hb hc g k =

@@ -24,7 +24,7 @@ use Rattle.curve_model.proofs.OriginPoint.{seven_is_prime}
 use Rattle.curve_laws.proofs.Coordinates.{counts_dimension_law}
 
 -- the generators of I and d
-abbrev gs : List (List Term)
+abbrev pub gs : List (List Term)
 gs = (term_of 1 2 0 ∷ []) ∷ curve ∷ []
 
 gs_poly : All (IsPoly 7 2) gs
@@ -148,7 +148,7 @@ split (t ∷ f) h = go (exponents_of t.mono h.0) (split f h.1)
 
 -- ---- the basis
 
-abbrev four : List (List Term)
+abbrev pub four : List (List Term)
 four = one ∷ (term_of 1 1 0 ∷ []) ∷ (term_of 1 0 1 ∷ []) ∷ (term_of 1 1 1 ∷ []) ∷ []
 
 four_poly : All (IsPoly 7 2) four
@@ -159,12 +159,12 @@ four_poly =
     (All-cons (IsPoly 7 2) (term_of 1 1 1 ∷ []) [] (poly_of_term 1 1 1 (omega arith) (omega arith)) (All-nil (IsPoly 7 2)))))
 
 -- the weight of a combination by numbers
-abbrev linear : (Monomial → ℕ) → List ℕ → List (List Term) → ℕ
+abbrev pub linear : (Monomial → ℕ) → List ℕ → List (List Term) → ℕ
 linear χ [] us = 0
 linear χ (c ∷ cs) [] = 0
 linear χ (c ∷ cs) (u ∷ us) = c * weigh χ u + linear χ cs us
 
-weigh-numbers : (χ : Monomial → ℕ) (cs : List ℕ) (us : List (List Term)) → weigh χ (number_combination 7 cs us) % 7 ≡ linear χ cs us % 7
+pub weigh-numbers : (χ : Monomial → ℕ) (cs : List ℕ) (us : List (List Term)) → weigh χ (number_combination 7 cs us) % 7 ≡ linear χ cs us % 7
 unfolding weigh
 weigh-numbers χ [] us = refl
 weigh-numbers χ (c ∷ cs) [] = refl
@@ -224,7 +224,7 @@ module _ (f : List Term) (h : IsPoly 7 2 f) where
   same : sub 7 f combined ≡ s.member
   same = normal_ext 7 (f ++ multiple 7 6 combined) s.member alike ∙ canonical_same 7 s.member (in_poly 7 2 gs s.member (omega arith) gs_poly s.holds).canonical
 
-  spanned : IsSpanned 7 2 gs four f
+  pub spanned : IsSpanned 7 2 gs four f
   unfolding combined rs
   spanned = record { residues = rs; below = small; as_many = refl; close = subst (InIdeal 7 2 gs) (sym same) s.holds }
 
@@ -234,23 +234,23 @@ four_span = record { polys = four_poly; each = spanned }
 -- ---- they are independent
 
 -- 1 at 1, and 0 elsewhere
-unfoldable is_one : ℕ → ℕ
+unfoldable pub is_one : ℕ → ℕ
 is_one zero = 0
 is_one (suc n) = is_zero n
 
 -- 0 from 2 on
-abbrev IsLow : (ℕ → ℕ) → Type 0
+abbrev pub IsLow : (ℕ → ℕ) → Type 0
 IsLow u = (n : ℕ) → u (suc (suc n)) ≡ 0
 
-zero_is_low : IsLow is_zero
+pub zero_is_low : IsLow is_zero
 unfolding is_zero
 zero_is_low n = refl
 
-one_is_low : IsLow is_one
+pub one_is_low : IsLow is_one
 unfolding is_one is_zero
 one_is_low n = refl
 
-abbrev both : (ℕ → ℕ) → (ℕ → ℕ) → ℕ → ℕ → ℕ
+abbrev pub both : (ℕ → ℕ) → (ℕ → ℕ) → ℕ → ℕ → ℕ
 both u v i j = u i * v j
 
 module _ (u v : ℕ → ℕ) (a : IsLow u) (b : IsLow v) where
@@ -269,10 +269,13 @@ module _ (u v : ℕ → ℕ) (a : IsLow u) (b : IsLow v) where
       let z : 1 * (0 * v (j + 0)) + (6 * (u (i + 0) * 0) + 0) ≡ 0 = omega arith in
       (λ k. (1 * (e k * v (j + 0)) + (6 * (u (i + 0) * w k) + 0)) % 7) ∙ ap (λ (n : ℕ). n % 7) z
 
+  pub passes : All (Passes (on (both u v))) gs
+  passes = All-cons (Passes (on (both u v))) (term_of 1 2 0 ∷ []) (curve ∷ []) square_passes (All-cons (Passes (on (both u v))) curve [] curve_passes (All-nil (Passes (on (both u v)))))
+
   tested : (cs : List ℕ) → InIdeal 7 2 gs (number_combination 7 cs four) → linear (on (both u v)) cs four % 7 ≡ 0
   tested cs i =
       sym (weigh-numbers (on (both u v)) cs four)
-      ∙ test_member (on (both u v)) gs (number_combination 7 cs four) (All-cons (Passes (on (both u v))) (term_of 1 2 0 ∷ []) (curve ∷ []) square_passes (All-cons (Passes (on (both u v))) curve [] curve_passes (All-nil (Passes (on (both u v)))))) i
+      ∙ test_member (on (both u v)) gs (number_combination 7 cs four) passes i
 
 zeros : (cs : List ℕ) → All (λ c. c < 7) cs → length cs ≡ 4 → InIdeal 7 2 gs (number_combination 7 cs four) → All (λ c. c ≡ 0) cs
 unfolding weigh is_zero is_one

@@ -5,3 +5,4 @@ mod CuspOrders
 mod CuspPower
 mod CuspNumerators
 mod CuspClosure
+mod CuspDelta

@@ -1,7 +1,14 @@
 //! The definitions of `curve_model` tried on the cusp x^3 = y^2 over F_7 with d = x^2, as far as that needs the laws.
 #![tactic(auto)]
 
-ghost use Rattle.curve_model.specs.Examples.{CuspHasDimensionFour, CuspNeedsOnePower, CuspHasClosure, CuspIsNotFull};
+ghost use Rattle.curve_model.specs.Examples.{
+  CuspHasDimensionFour,
+  CuspNeedsOnePower,
+  CuspHasClosure,
+  CuspIsNotFull,
+  CuspClosureIsFull,
+  CuspHasDeltaOne,
+};
 
 /// Modulo d the cusp has the dimension 4: 1, x, y and xy are a basis.
 pub fn cusp_has_dimension_four()
@@ -19,7 +26,13 @@ pub fn cusp_has_its_closure()
     ensures { CuspHasClosure }
 {}
 
-/// On the cusp A itself is a ring of local fractions at the origin that can be enlarged.
-pub fn cusp_can_be_enlarged()
-    ensures { CuspIsNotFull }
+/// On the cusp A itself is a ring of local fractions at the origin that can be enlarged, and the closure is one that can not.
+pub fn cusp_is_enlarged_once()
+    ensures not_full { CuspIsNotFull }
+    ensures full { CuspClosureIsFull }
+{}
+
+/// Delta of the origin of the cusp is 1: modulo A the closure has the basis xy/d.
+pub fn cusp_has_delta_one()
+    ensures { CuspHasDeltaOne }
 {}

@@ -9,6 +9,7 @@ use Rattle.curve_model.specs.Local.{Local}
 use Rattle.curve_model.specs.Point.{IsPoint, HasDegree}
 use Rattle.curve_model.specs.Closure.{Suffices, Closure, InModule}
 use Rattle.curve_model.specs.Rings.{IsFull}
+use Rattle.curve_model.specs.Delta.{HasDelta}
 
 -- c x^i y^j
 abbrev pub term_of : ℕ → ℕ → ℕ → Term
@@ -65,6 +66,14 @@ CuspNeedsOnePower = Suffices cusp (origin ∷ []) 1 × (Suffices cusp (origin �
 -- the closure at the origin has the power 1 and the numerators y^2, x y, x^2
 abbrev pub CuspHasClosure : Type 0
 CuspHasClosure = Closure cusp (origin ∷ []) 1 conductor
+
+-- y^2, x y, x^2 over d hold every fraction that takes their radical at the origin into itself
+abbrev pub CuspClosureIsFull : Type 0
+CuspClosureIsFull = IsFull cusp origin (InModule cusp 1 conductor)
+
+-- delta of the origin is 1
+abbrev pub CuspHasDeltaOne : Type 0
+CuspHasDeltaOne = HasDelta cusp origin 1
 
 -- A itself does not hold every fraction that takes its radical at the origin into itself
 abbrev pub CuspIsNotFull : Type 0

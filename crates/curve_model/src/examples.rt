@@ -1,6 +1,18 @@
 // The definitions tried on small curves, each the contract of a function that does nothing.
 ghost use Rattle.curve_model.specs.Unit.{UnitsCloseNothing};
-ghost use Rattle.curve_model.specs.Examples.{ProductIsIntegral, InverseIsNotIntegral, ProductIsLocal, ProductIsNotWhole, CuspIsRegular, AxesAreNotRegular, OriginIsPoint, OriginHasDegreeOne, PlaneHasNoPoint, PlaneHasNoFractions, OnePointHasDimensionZero};
+ghost use Rattle.curve_model.specs.Examples.{
+  ProductIsIntegral,
+  InverseIsNotIntegral,
+  ProductIsLocal,
+  ProductIsNotWhole,
+  CuspIsRegular,
+  AxesAreNotRegular,
+  OriginIsPoint,
+  OriginHasDegreeOne,
+  PlaneHasNoPoint,
+  PlaneHasNoFractions,
+  OnePointHasDimensionZero,
+};
 
 /// On the cusp x^3 = y^2 over F_7 with d = x^2 the fraction xy/d is integral, since its square is x, and 1/d is not.
 pub fn cusp_has_integral_fractions()
