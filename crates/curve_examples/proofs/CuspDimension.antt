@@ -12,7 +12,7 @@ use Rattle.polys.proofs.Weights.{weigh, Alike, weigh-append, weigh-normal, norma
 use Rattle.polys.proofs.Sums.{mul_normal_left}
 use Rattle.polys.proofs.Units.{canonical_same, weigh-scaled}
 use Rattle.polys.proofs.Affine.{poly_normal, poly_one}
-use Rattle.polys.proofs.Ideals.{in_none, in_add, in_mul, in_head, in_poly}
+use Rattle.ideal_laws.proofs.Ideals.{in_none, in_add, in_mul, in_head, in_poly}
 use Rattle.curve_model.specs.Laws.{IsFinite}
 use Rattle.curve_model.specs.Examples.{term_of, cusp, CuspHasDimensionFour}
 use Rattle.curve_model.proofs.Cusp.{poly_of_term}
@@ -254,14 +254,14 @@ abbrev both : (ℕ → ℕ) → (ℕ → ℕ) → ℕ → ℕ → ℕ
 both u v i j = u i * v j
 
 module _ (u v : ℕ → ℕ) (a : IsLow u) (b : IsLow v) where
-  square_passes : Passes (both u v) (term_of 1 2 0 ∷ [])
+  square_passes : Passes (on (both u v)) (term_of 1 2 0 ∷ [])
   unfolding weigh
   square_passes i j =
       let e : u (i + 2) ≡ 0 = (let k : i + 2 ≡ suc (suc i) = omega arith in ap u k ∙ a i) in
       let z : 1 * (0 * v (j + 0)) + 0 ≡ 0 = omega arith in
       ap (λ n. (1 * (n * v (j + 0)) + 0) % 7) e ∙ ap (λ (n : ℕ). n % 7) z
 
-  curve_passes : Passes (both u v) curve
+  curve_passes : Passes (on (both u v)) curve
   unfolding weigh
   curve_passes i j =
       let e : u (i + 3) ≡ 0 = (let k : i + 3 ≡ suc (suc (i + 1)) = omega arith in ap u k ∙ a (i + 1)) in
@@ -272,7 +272,7 @@ module _ (u v : ℕ → ℕ) (a : IsLow u) (b : IsLow v) where
   tested : (cs : List ℕ) → InIdeal 7 2 gs (number_combination 7 cs four) → linear (on (both u v)) cs four % 7 ≡ 0
   tested cs i =
       sym (weigh-numbers (on (both u v)) cs four)
-      ∙ test_member (both u v) gs (number_combination 7 cs four) (All-cons (Passes (both u v)) (term_of 1 2 0 ∷ []) (curve ∷ []) square_passes (All-cons (Passes (both u v)) curve [] curve_passes (All-nil (Passes (both u v))))) i
+      ∙ test_member (on (both u v)) gs (number_combination 7 cs four) (All-cons (Passes (on (both u v))) (term_of 1 2 0 ∷ []) (curve ∷ []) square_passes (All-cons (Passes (on (both u v))) curve [] curve_passes (All-nil (Passes (on (both u v)))))) i
 
 zeros : (cs : List ℕ) → All (λ c. c < 7) cs → length cs ≡ 4 → InIdeal 7 2 gs (number_combination 7 cs four) → All (λ c. c ≡ 0) cs
 unfolding weigh is_zero is_one

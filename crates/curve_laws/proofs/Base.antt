@@ -15,7 +15,7 @@ use Rattle.polys.specs.Ring.{Member}
 use Rattle.curve_model.specs.Fraction.{Fraction, IsFraction, AreEqual, denominator_power}
 use Rattle.curve_model.specs.Laws.{IsRegular}
 use Rattle.curve_laws.proofs.Members.{R, ideal_from, ideal_to}
-use Rattle.polys.proofs.Members.{lift}
+use Rattle.ideal_laws.proofs.Members.{lift}
 
 module _ (A : CurveData) (c : IsRegular A) where
   abbrev pub p : ℕ

@@ -22,14 +22,14 @@ use Rattle.polys.specs.Terms.{IsPoly, keep, add, sub, mul}
 use Rattle.polys.specs.Ideal.{InIdeal, number_combination, Spans, HasDim}
 use Rattle.polys.specs.Curve.{CurveData}
 use Rattle.polys.specs.Ring.{Member}
-use Rattle.polys.proofs.Constants.{constant_sum, constant_product}
+use Rattle.ideal_laws.proofs.Constants.{constant_sum, constant_product}
 use Rattle.polys.proofs.Affine.{constant, poly_constant, mul_constant, sevens_of, positive}
 use Rattle.monomials.specs.Mono.{unit}
 use Rattle.curve_model.specs.Fraction.{denominator_power}
 use Rattle.curve_model.specs.Laws.{IsFinite}
 use Rattle.curve_model.specs.Quotient.{CoordinatesAreUnique, MembershipIsDecided, BasesCountDimension, PowersHaveDimension}
 use Rattle.curve_laws.proofs.Members.{R, ideal_from, ideal_to}
-use Rattle.polys.proofs.Members.{terms_of, lift, terms-lift, polys_of, length-lift}
+use Rattle.ideal_laws.proofs.Members.{terms_of, lift, terms-lift, polys_of, length-lift}
 use Rattle.curve_laws.proofs.Base as Base
 use Rattle.curve_laws.proofs.Locals.{taken_up, taken_down}
 use Rattle.curve_laws.proofs.Chains.{from_zero, of_zero}

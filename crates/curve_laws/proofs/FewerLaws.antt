@@ -6,15 +6,15 @@ use Rattle.polys.specs.Terms.{mul, sub}
 use Rattle.polys.specs.Ideal.{InIdeal}
 use Rattle.polys.specs.Curve.{CurveData}
 use Rattle.polys.proofs.Affine.{poly_none}
-use Rattle.polys.proofs.Multiples.{multiple_zero}
-use Rattle.polys.proofs.Ideals.{in_none}
+use Rattle.ideal_laws.proofs.Multiples.{multiple_zero}
+use Rattle.ideal_laws.proofs.Ideals.{in_none}
 use Rattle.curve_model.specs.Fraction.{Fraction, IsFraction, InA, denominator_power, sum_of, multiple_of}
 use Rattle.curve_model.specs.Local.{Local, LocalAt}
 use Rattle.curve_model.specs.Delta as Delta
 use Rattle.curve_model.specs.Delta.{AreIndependent, HasIndependent}
 use Rattle.curve_model.specs.Laws.{IsFinite, ArePolys}
 use Rattle.curve_model.specs.OneDelta.{DeltaIsUnique, FewerAreIndependent}
-use Rattle.polys.proofs.Members.{lift}
+use Rattle.ideal_laws.proofs.Members.{lift}
 use Rattle.curve_laws.proofs.Base.{high}
 use Rattle.curve_laws.proofs.Scalars.{point_laws}
 use Rattle.curve_laws.proofs.LocalRingLaws.{local_ring_law}

@@ -7,7 +7,7 @@ use Rattle.polys.specs.Terms.{IsPoly}
 use Rattle.polys.specs.Ideal.{InIdeal}
 use Rattle.polys.specs.Curve.{CurveData}
 use Rattle.polys.proofs.Affine.{poly_power}
-use Rattle.polys.proofs.Ideals.{in_larger, in_head, in_more}
+use Rattle.ideal_laws.proofs.Ideals.{in_larger, in_head, in_more}
 use Rattle.curve_model.specs.Fraction.{Fraction, InA, EqualsOver, denominator_power}
 use Rattle.curve_model.specs.Integral.{Integral}
 use Rattle.curve_model.specs.Local.{Local, LocalAt, TakesIntoA}

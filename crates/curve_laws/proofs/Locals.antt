@@ -16,7 +16,7 @@ use Rattle.curve_model.specs.Fraction.{Fraction, IsFraction, denominator_power}
 use Rattle.curve_model.specs.Local.{Local}
 use Rattle.curve_model.specs.Laws.{IsRegular}
 use Rattle.curve_laws.proofs.Members.{ideal_up, ideal_down}
-use Rattle.polys.proofs.Members.{terms_of, lift, terms-lift, length-lift}
+use Rattle.ideal_laws.proofs.Members.{terms_of, lift, terms-lift, length-lift}
 use Rattle.curve_laws.proofs.Facts.{contains_terms, contains_member}
 use Rattle.curve_laws.proofs.Chains.{multiple_in, multiple_out}
 use Rattle.curve_laws.proofs.Base.{high, Ring, Poly, I, d, Q, member, pow_d}

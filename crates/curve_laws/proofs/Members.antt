@@ -10,7 +10,7 @@ use Rattle.polys.specs.Ideal as Polys
 use Rattle.polys.specs.Ideal.{InIdeal}
 use Rattle.polys.specs.Ring.{Member}
 use Rattle.polys.proofs.Instance.{polynomials}
-use Rattle.polys.proofs.Members.{terms_of, lift, terms-lift, polys_of}
+use Rattle.ideal_laws.proofs.Members.{terms_of, lift, terms-lift, polys_of}
 
 module _ (p n : ℕ) (h : 1 < p) where
   abbrev pub R : CommRing

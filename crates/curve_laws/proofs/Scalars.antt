@@ -20,11 +20,11 @@ use Rattle.monomials.specs.Mono.{unit}
 use Rattle.polys.specs.Terms.{keep, add, sub}
 use Rattle.polys.specs.Ideal.{InIdeal, number_combination}
 use Rattle.polys.specs.Curve.{CurveData}
-use Rattle.polys.proofs.Constants.{constant_sum, constant_product}
+use Rattle.ideal_laws.proofs.Constants.{constant_sum, constant_product}
 use Rattle.polys.proofs.Affine.{constant, poly_constant, mul_constant, sevens_of, positive}
 use Rattle.curve_model.specs.Laws.{IsFinite}
 use Rattle.curve_laws.proofs.Members.{ideal_up, ideal_down}
-use Rattle.polys.proofs.Members.{terms_of, lift, terms-lift, polys_of, length-lift}
+use Rattle.ideal_laws.proofs.Members.{terms_of, lift, terms-lift, polys_of, length-lift}
 use Rattle.curve_laws.proofs.Regulars.{regular}
 use Rattle.curve_laws.proofs.Base.{high, Ring, Poly, I, d, Q, member}
 

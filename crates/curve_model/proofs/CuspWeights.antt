@@ -11,7 +11,7 @@ use Rattle.polys.proofs.Weights.{weigh, Alike, weigh-append, weigh-normal, norma
 use Rattle.polys.proofs.Sums.{weigh-products, mul_normal_left}
 use Rattle.polys.proofs.Units.{canonical_same}
 use Rattle.polys.proofs.Affine.{poly_normal}
-use Rattle.polys.proofs.Ideals.{in_none, in_add, in_mul, in_head, in_poly}
+use Rattle.ideal_laws.proofs.Ideals.{in_none, in_add, in_mul, in_head, in_poly}
 use Rattle.curve_model.specs.Fraction.{denominator_power}
 use Rattle.curve_model.specs.Examples.{term_of, cusp, ProductIsNotWhole, CuspIsRegular}
 use Rattle.curve_model.proofs.Cusp.{poly_of_term}
@@ -29,7 +29,7 @@ weights ψ i j = ψ (2 * i + 3 * j)
 seven_times : (n : ℕ) → (1 * n + (6 * n + 0)) % 7 ≡ 0
 seven_times n = let e : 1 * n + (6 * n + 0) ≡ 7 * n + 0 = omega arith in ap (λ (k : ℕ). k % 7) e ∙ mul-add-mod_self_left 7 n 0
 
-curve_passes : (ψ : ℕ → ℕ) → Passes (weights ψ) curve
+curve_passes : (ψ : ℕ → ℕ) → Passes (on (weights ψ)) curve
 unfolding weigh
 curve_passes ψ i j =
     let a : 2 * (i + 3) + 3 * (j + 0) ≡ 2 * (i + 0) + 3 * (j + 2) = omega arith in
@@ -37,7 +37,7 @@ curve_passes ψ i j =
 
 -- members of I have all sums 0
 pub tests_of_member : (f : List Term) → InIdeal 7 2 cusp.ideal f → (ψ : ℕ → ℕ) → test (weights ψ) f % 7 ≡ 0
-tests_of_member f i ψ = test_member (weights ψ) (curve ∷ []) f (All-cons (Passes (weights ψ)) curve [] (curve_passes ψ) (All-nil (Passes (weights ψ)))) i
+tests_of_member f i ψ = test_member (on (weights ψ)) (curve ∷ []) f (All-cons (Passes (on (weights ψ))) curve [] (curve_passes ψ) (All-nil (Passes (on (weights ψ))))) i
 
 -- ---- conversely
 
@@ -230,7 +230,7 @@ unfoldable pub at_five : ℕ → ℕ
 at_five (suc (suc (suc (suc (suc zero))))) = 1
 at_five n = 0
 
-denominator_passes : Passes (weights at_five) (term_of 1 2 0 ∷ [])
+denominator_passes : Passes (on (weights at_five)) (term_of 1 2 0 ∷ [])
 unfolding weigh at_five
 denominator_passes i j = go (2 * i + 3 * j) refl
   where
@@ -248,5 +248,5 @@ product_is_not_whole w =
     let a = mul 7 (term_of 1 1 1 ∷ []) (denominator_power cusp 0) in
     let b = mul 7 w.0 (denominator_power cusp 1) in
     never (test (weights at_five) (sub 7 a b) % 7)
-    (test_less (weights at_five) a b (test_product (weights at_five) w.0 (denominator_power cusp 1) w.1.affine denominator_passes))
+    (test_less (on (weights at_five)) a b (test_product (on (weights at_five)) w.0 (denominator_power cusp 1) w.1.affine denominator_passes))
     (tests_of_member (sub 7 a b) w.2 at_five)

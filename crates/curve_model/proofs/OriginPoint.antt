@@ -18,8 +18,8 @@ use Rattle.polys.proofs.Weights.{weigh, Alike, weigh-append, weigh-normal, norma
 use Rattle.polys.proofs.Units.{canonical_same, weigh-scaled}
 use Rattle.polys.proofs.Affine.{poly_one}
 use Rattle.polys.proofs.Field.{inverse}
-use Rattle.polys.proofs.Ideals.{in_add, in_head, in_more, in_multiple, in_poly}
-use Rattle.polys.proofs.Unique.{contains_head, contains_tail, contains_cases, contains_none}
+use Rattle.ideal_laws.proofs.Ideals.{in_add, in_head, in_more, in_multiple, in_poly}
+use Rattle.ideal_laws.proofs.Unique.{contains_head, contains_tail, contains_cases, contains_none}
 use Rattle.curve_model.specs.Examples.{term_of, origin, OriginIsPoint, OriginHasDegreeOne}
 use Rattle.curve_model.proofs.Origin.{is_zero, at_one, value, Vanishes, vanishes_member}
 use Rattle.curve_model.proofs.Cusp.{poly_of_term}

@@ -20,9 +20,9 @@ on h m = h (slice_index m.exponents 0) (slice_index m.exponents 1)
 abbrev pub test : (ℕ → ℕ → ℕ) → List Term → ℕ
 test h f = weigh (on h) f
 
--- the test is 0 on each product of a monomial and g
-abbrev pub Passes : (ℕ → ℕ → ℕ) → List Term → Type 0
-Passes h g = (i j : ℕ) → weigh (λ m. on h (times (mono_of i j) m)) g % 7 ≡ 0
+-- the weight is 0 on each product of a monomial and g
+abbrev pub Passes : (Monomial → ℕ) → List Term → Type 0
+Passes χ g = (i j : ℕ) → weigh (λ m. χ (times (mono_of i j) m)) g % 7 ≡ 0
 
 -- weights that agree on the monomials in x and y
 pub weigh_same : (χ ω : Monomial → ℕ) (f : List Term) → EachMono (IsAffine 2) f → ((i j : ℕ) → χ (mono_of i j) ≡ ω (mono_of i j)) → weigh χ f ≡ weigh ω f
@@ -42,32 +42,32 @@ weigh_zero χ (t ∷ f) a h =
     (sym (mul-mod_second t.coeff (χ t.mono) 7) ∙ ap (λ (n : ℕ). (t.coeff * n) % 7) (ap (λ m. χ m % 7) e.2 ∙ h e.0 e.1) ∙ ap (λ (n : ℕ). n % 7) z)
     (weigh_zero χ f a.1 h)
 
-module _ (h : ℕ → ℕ → ℕ) where
-  pub test_add : (f g : List Term) → test h f % 7 ≡ 0 → test h g % 7 ≡ 0 → test h (add 7 f g) % 7 ≡ 0
-  test_add f g a b = weigh-normal 7 (on h) _ ∙ ap (λ (n : ℕ). n % 7) (weigh-append (on h) f g) ∙ mod_plus 7 (test h f) 0 (test h g) 0 a b
+module _ (χ : Monomial → ℕ) where
+  pub test_add : (f g : List Term) → weigh χ f % 7 ≡ 0 → weigh χ g % 7 ≡ 0 → weigh χ (add 7 f g) % 7 ≡ 0
+  test_add f g a b = weigh-normal 7 χ _ ∙ ap (λ (n : ℕ). n % 7) (weigh-append χ f g) ∙ mod_plus 7 (weigh χ f) 0 (weigh χ g) 0 a b
 
   -- f - g has the test of f where g has the test 0
-  pub test_less : (f g : List Term) → test h g % 7 ≡ 0 → test h (sub 7 f g) % 7 ≡ test h f % 7
+  pub test_less : (f g : List Term) → weigh χ g % 7 ≡ 0 → weigh χ (sub 7 f g) % 7 ≡ weigh χ f % 7
   test_less f g b =
       let z : 6 * 0 ≡ 0 = omega arith in
-      let e : test h f + 0 ≡ test h f = omega arith in
-      weigh-normal 7 (on h) _
-      ∙ ap (λ (n : ℕ). n % 7) (weigh-append (on h) f (multiple 7 6 g))
-      ∙ mod_plus 7 (test h f) (test h f) (test h (multiple 7 6 g)) 0 refl
-      (weigh-normal 7 (on h) (scaled 6 g) ∙ ap (λ (n : ℕ). n % 7) (weigh-scaled (on h) 6 g) ∙ sym (mul-mod_second 6 (test h g) 7) ∙ ap (λ (n : ℕ). (6 * n) % 7) b ∙ ap (λ (n : ℕ). n % 7) z)
+      let e : weigh χ f + 0 ≡ weigh χ f = omega arith in
+      weigh-normal 7 χ _
+      ∙ ap (λ (n : ℕ). n % 7) (weigh-append χ f (multiple 7 6 g))
+      ∙ mod_plus 7 (weigh χ f) (weigh χ f) (weigh χ (multiple 7 6 g)) 0 refl
+      (weigh-normal 7 χ (scaled 6 g) ∙ ap (λ (n : ℕ). n % 7) (weigh-scaled χ 6 g) ∙ sym (mul-mod_second 6 (weigh χ g) 7) ∙ ap (λ (n : ℕ). (6 * n) % 7) b ∙ ap (λ (n : ℕ). n % 7) z)
       ∙ ap (λ (n : ℕ). n % 7) e
 
-  pub test_product : (q g : List Term) → EachMono (IsAffine 2) q → Passes h g → test h (mul 7 q g) % 7 ≡ 0
-  test_product q g a b = weigh-normal 7 (on h) (products q g) ∙ ap (λ (n : ℕ). n % 7) (weigh-products (on h) q g) ∙ weigh_zero (λ m. weigh (λ w. on h (times m w)) g) q a b
+  pub test_product : (q g : List Term) → EachMono (IsAffine 2) q → Passes χ g → weigh χ (mul 7 q g) % 7 ≡ 0
+  test_product q g a b = weigh-normal 7 χ (products q g) ∙ ap (λ (n : ℕ). n % 7) (weigh-products χ q g) ∙ weigh_zero (λ m. weigh (λ w. χ (times m w)) g) q a b
 
-  test_combination : (qs gs : List (List Term)) → All (IsPoly 7 2) qs → All (Passes h) gs → test h (combination 7 qs gs) % 7 ≡ 0
+  test_combination : (qs gs : List (List Term)) → All (IsPoly 7 2) qs → All (Passes χ) gs → weigh χ (combination 7 qs gs) % 7 ≡ 0
   unfolding weigh
   test_combination [] gs a b = refl
   test_combination (q ∷ qs) [] a b = refl
   test_combination (q ∷ qs) (g ∷ gs) a b =
-      test_add (mul 7 q g) (combination 7 qs gs) (test_product q g (All-head (IsPoly 7 2) q qs a).affine (All-head (Passes h) g gs b))
-      (test_combination qs gs (All-tail (IsPoly 7 2) q qs a) (All-tail (Passes h) g gs b))
+      test_add (mul 7 q g) (combination 7 qs gs) (test_product q g (All-head (IsPoly 7 2) q qs a).affine (All-head (Passes χ) g gs b))
+      (test_combination qs gs (All-tail (IsPoly 7 2) q qs a) (All-tail (Passes χ) g gs b))
 
   -- a test that the generators pass is 0 on the members
-  pub test_member : (gs : List (List Term)) (f : List Term) → All (Passes h) gs → InIdeal 7 2 gs f → test h f % 7 ≡ 0
-  test_member gs f b i = subst (λ g. test h g % 7 ≡ 0) (sym i.combined) (test_combination i.factors gs i.polys b)
+  pub test_member : (gs : List (List Term)) (f : List Term) → All (Passes χ) gs → InIdeal 7 2 gs f → weigh χ f % 7 ≡ 0
+  test_member gs f b i = subst (λ g. weigh χ g % 7 ≡ 0) (sym i.combined) (test_combination i.factors gs i.polys b)

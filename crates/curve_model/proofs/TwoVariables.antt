@@ -11,7 +11,7 @@ use Rattle.polys.proofs.Weights.{weigh, Alike, weigh-append, weigh-normal, norma
 use Rattle.polys.proofs.Sums.{mul_normal_left}
 use Rattle.polys.proofs.Units.{canonical_same}
 use Rattle.polys.proofs.Affine.{poly_normal, zeros}
-use Rattle.polys.proofs.Ideals.{in_none, in_add, in_mul, in_head, in_more, in_poly}
+use Rattle.ideal_laws.proofs.Ideals.{in_none, in_add, in_mul, in_head, in_more, in_poly}
 use Rattle.curve_model.specs.Examples.{term_of, origin}
 use Rattle.curve_model.proofs.Origin.{is_zero, at_one, value}
 use Rattle.curve_model.proofs.Cusp.{poly_of_term}

@@ -7,7 +7,7 @@ use Rattle.curve_model.specs.Fraction.{Fraction, IsFraction, InA, over}
 use Rattle.curve_model.specs.Integral.{Integral}
 use Rattle.curve_model.specs.Local.{Local}
 use Rattle.curve_model.specs.Point.{IsPoint, HasDegree}
-use Rattle.curve_model.specs.Closure.{InModule}
+use Rattle.curve_model.specs.Closure.{Suffices, Closure, InModule}
 use Rattle.curve_model.specs.Rings.{IsFull}
 
 -- c x^i y^j
@@ -53,6 +53,18 @@ OriginHasDegreeOne = HasDegree cusp origin 1
 -- x y over d is local at the origin
 abbrev pub ProductIsLocal : Type 0
 ProductIsLocal = Local cusp origin (over (term_of 1 1 1 ∷ []) 1)
+
+-- y^2, x y and x^2
+abbrev pub conductor : List (List Term)
+conductor = (term_of 1 0 2 ∷ []) ∷ (term_of 1 1 1 ∷ []) ∷ (term_of 1 2 0 ∷ []) ∷ []
+
+-- the fractions local at the origin equal some b over d, and not all of them some b over 1
+abbrev pub CuspNeedsOnePower : Type 0
+CuspNeedsOnePower = Suffices cusp (origin ∷ []) 1 × (Suffices cusp (origin ∷ []) 0 → ⊥)
+
+-- the closure at the origin has the power 1 and the numerators y^2, x y, x^2
+abbrev pub CuspHasClosure : Type 0
+CuspHasClosure = Closure cusp (origin ∷ []) 1 conductor
 
 -- A itself does not hold every fraction that takes its radical at the origin into itself
 abbrev pub CuspIsNotFull : Type 0

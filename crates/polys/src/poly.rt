@@ -1,7 +1,8 @@
 // Polynomials, and vectors of two of them, as falling lists of terms.
 ghost use Rattle.std.specs.Prelude.{◌≡◌, ◌≢◌, ◌+◌, ◌*◌, ◌<◌, ◌≤◌, ◌↔◌, [], ◌∷◌, IsTrue, IfOk, IfSome, IsNone, length};
+ghost use Rattle.monomials.specs.declared.mono.TheConstants.{MAX_DEGREE};
 ghost use Rattle.monomials.specs.Mono.{total_degree};
-ghost use Rattle.polys.specs.Terms.{normal, lead, degree_of, EachMono, IsMonicOf};
+ghost use Rattle.polys.specs.Terms.{normal, one, lead, degree_of, EachMono, IsAffine, IsMonicOf};
 ghost use Rattle.polys.specs.Poly.{IsVector, IsPlain, sum_of, difference_of, product_of, term_multiple_of, power_of, derivative_of};
 
 use crate::{Term, terms, top};
@@ -40,6 +41,14 @@ impl Poly {
             prime: p,
             terms: Vec::new(alloc),
         }
+    }
+
+    /// The polynomial 1.
+    pub fn one(alloc: Global, p: Prime) -> Result<Poly, NoMemory>
+        ensures { IfOk result (λ f. f ≡ record { prime = p; terms = one }) }
+    {
+        let terms = terms::one(alloc, p)?;
+        Ok(Poly { prime: p, terms })
     }
 
     /// The polynomial whose terms these are, moved; they fall in dp and have coefficients from 1 to p - 1.
@@ -107,6 +116,13 @@ impl Poly {
         terms::is_plain(&self.terms)
     }
 
+    /// Whether all monomials are without the homogenising variable and of component 0: a polynomial in the six variables.
+    pub fn is_affine(&self) -> bool
+        ensures { IsTrue result ↔ EachMono (IsAffine 6) self.now.terms }
+    {
+        terms::is_affine(&self.terms)
+    }
+
     /// Whether the primes and the terms are equal.
     pub fn same(&self, other: &Poly) -> bool
         ensures { IsTrue result ↔ (self.now ≡ other.now) }
@@ -151,7 +167,7 @@ impl Poly {
         Ok(Poly { prime: p, terms })
     }
 
-    /// The product. All monomials of `other` have component 0, and the degrees add up to at most 60,000.
+    /// The product. All monomials of `other` have component 0, and the degrees add up to at most `MAX_DEGREE`.
     ///
     /// The factor with fewer terms is halved again and again and the products of its parts are merged, so with m terms
     /// and n fewer terms it takes about m n log n steps. A vector with fewer terms than `other` is not halved: then it
@@ -159,7 +175,7 @@ impl Poly {
     pub fn mul(&self, other: &Poly) -> Result<Poly, NoMemory>
         requires prime { self.now.prime ≡ other.now.prime }
         requires plain { EachMono IsPlain other.now.terms }
-        requires room { degree_of self.now.terms + degree_of other.now.terms ≤ 60000 }
+        requires room { degree_of self.now.terms + degree_of other.now.terms ≤ MAX_DEGREE }
         ensures { IfOk result (λ f. f ≡ product_of self.now other.now) }
     {
         let alloc = *self.terms.allocator();
@@ -171,11 +187,11 @@ impl Poly {
     }
 
     /// The product with the term `t` of component 0, whose coefficient is a residue. Unless that is 0, the degrees add
-    /// up to at most 60,000. It takes one step for each term.
+    /// up to at most `MAX_DEGREE`. It takes one step for each term.
     pub fn mul_term(&self, t: Term) -> Result<Poly, NoMemory>
         requires residue { t.coeff < self.now.prime }
         requires plain { IsPlain t.mono }
-        requires room { t.coeff ≢ 0 → degree_of self.now.terms + total_degree t.mono.exponents ≤ 60000 }
+        requires room { t.coeff ≢ 0 → degree_of self.now.terms + total_degree t.mono.exponents ≤ MAX_DEGREE }
         ensures { IfOk result (λ f. f ≡ term_multiple_of self.now t) }
     {
         let alloc = *self.terms.allocator();
@@ -189,13 +205,13 @@ impl Poly {
         })
     }
 
-    /// The power with the exponent `n`. All monomials have component 0, and `n` times the degree is at most 60,000.
+    /// The power with the exponent `n`. All monomials have component 0, and `n` times the degree is at most `MAX_DEGREE`.
     ///
     /// With two or more terms it takes n products with `self`, which for many terms costs less than squaring does.
     /// With one term or none it takes about log n products of one term.
     pub fn power(&self, n: u32) -> Result<Poly, NoMemory>
         requires plain { EachMono IsPlain self.now.terms }
-        requires room { degree_of self.now.terms * n ≤ 60000 }
+        requires room { degree_of self.now.terms * n ≤ MAX_DEGREE }
         ensures { IfOk result (λ f. f ≡ power_of self.now n) }
     {
         let alloc = *self.terms.allocator();
@@ -212,7 +228,7 @@ impl Poly {
     /// at a time, unless terms cancel out: then more and more of them are made, at last the whole power.
     pub fn power_within(&self, n: u32, limit: usize) -> Result<Option<Poly>, NoMemory>
         requires plain { EachMono IsPlain self.now.terms }
-        requires room { degree_of self.now.terms * n ≤ 60000 }
+        requires room { degree_of self.now.terms * n ≤ MAX_DEGREE }
         ensures few { IfOk result (λ r. IfSome r (λ f. (f ≡ power_of self.now n) × (length f.terms ≤ limit))) }
         ensures many { IfOk result (λ r. IsNone r → limit < length (power_of self.now n).terms) }
     {

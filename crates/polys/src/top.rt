@@ -1,5 +1,6 @@
 // Tops of polynomials: all terms above a monomial. They decide, without the whole of it, whether a power has many terms.
 ghost use Rattle.std.specs.Prelude.{Option, max, take, drop, ◌≡◌, ◌+◌, ◌*◌, ◌<◌, ◌≤◌, ◌↔◌, ℕ, List, [], ◌∷◌, length, IsTrue, IfOk, IfSome, IsNone, Some, None};
+ghost use Rattle.monomials.specs.declared.mono.TheConstants.{MAX_DEGREE};
 ghost use Rattle.monomials.specs.Mono.{Monomial, IsMono, total_degree};
 ghost use Rattle.polys.specs.declared.term.Term.{Term};
 ghost use Rattle.polys.specs.Terms.{one, mul, power, degree_of, EachMono, add};
@@ -8,7 +9,7 @@ ghost use Rattle.polys.specs.Poly.{IsVector, IsPlain};
 ghost use Rattle.polys.specs.Top.{Above, Agrees, higher, cut_times, cut_raised, cut_degree, IsCut, IsTop, IsTold, reach, KeepsTop};
 
 use crate::Term;
-use crate::terms::{power as whole_power, sum, term_multiple};
+use crate::terms::{one, power as whole_power, sum, term_multiple};
 use monomials::Mono;
 use prime_field::Prime;
 use std::alloc::{AllocError, Global};
@@ -54,7 +55,7 @@ fn higher(a: Option<Mono>, b: Option<Mono>) -> Option<Mono>
 fn cut_times(cut: &Option<Mono>, m: &Mono) -> Option<Mono>
     requires known { IsCut cut.now }
     requires plain { IsPlain m.now }
-    requires room { cut_degree cut.now + total_degree m.now.exponents ≤ 60000 }
+    requires room { cut_degree cut.now + total_degree m.now.exponents ≤ MAX_DEGREE }
     ensures value { result ≡ cut_times cut.now m.now }
     ensures known { IsCut result }
 {
@@ -128,7 +129,7 @@ fn times_term(alloc: Global, p: Prime, a: &Top, t: Term) -> Result<Top, AllocErr
     requires mono { IsMono t.mono }
     requires plain { IsPlain t.mono }
     requires left { IsTop p a.now }
-    requires room { reach a.now + total_degree t.mono.exponents ≤ 60000 }
+    requires room { reach a.now + total_degree t.mono.exponents ≤ MAX_DEGREE }
     ensures top { IfOk result (λ r. IsTop p r) }
     ensures value { IfOk result (λ r. (g : List Term) → Agrees p a.now.cut a.now.terms.items g → Agrees p r.cut r.terms.items (mul p g (t ∷ []))) }
     ensures reach { IfOk result (λ r. reach r ≤ reach a.now + total_degree t.mono.exponents) }
@@ -143,7 +144,7 @@ fn product(alloc: Global, p: Prime, a: &Top, b: &[Term], keep: usize) -> Result<
     requires left { IsTop p a.now }
     requires right { IsVector p b.now }
     requires plain { EachMono IsPlain b.now }
-    requires room { reach a.now + degree_of b.now ≤ 60000 }
+    requires room { reach a.now + degree_of b.now ≤ MAX_DEGREE }
     ensures top { IfOk result (λ t. IsTop p t) }
     ensures value { IfOk result (λ t. (g : List Term) → Agrees p a.now.cut a.now.terms.items g → Agrees p t.cut t.terms.items (mul p g b.now)) }
     ensures reach { IfOk result (λ t. reach t ≤ reach a.now + degree_of b.now) }
@@ -167,7 +168,7 @@ fn product(alloc: Global, p: Prime, a: &Top, b: &[Term], keep: usize) -> Result<
 // The monomial with exponents k times as great.
 fn mono_power(m: &Mono, k: u32) -> Mono
     requires known { IsMono m.now }
-    requires room { total_degree m.now.exponents * k ≤ 60000 }
+    requires room { total_degree m.now.exponents * k ≤ MAX_DEGREE }
     ensures value { result ≡ raised k m.now }
     ensures known { IsMono result }
 {
@@ -182,7 +183,7 @@ fn mono_power(m: &Mono, k: u32) -> Mono
 // The terms with the p-th powers of their monomials.
 fn frobenius(alloc: Global, p: Prime, f: &[Term]) -> Result<Vec<Term>, AllocError>
     requires terms { IsVector p f.now }
-    requires room { degree_of f.now * p ≤ 60000 }
+    requires room { degree_of f.now * p ≤ MAX_DEGREE }
     ensures value { IfOk result (λ v. v.items ≡ frobenius p f.now) }
     ensures known { IfOk result (λ v. IsVector p v.items) }
 {
@@ -200,7 +201,7 @@ fn frobenius(alloc: Global, p: Prime, f: &[Term]) -> Result<Vec<Term>, AllocErro
 // The cut with the p-th power of its monomial.
 fn cut_power(p: Prime, cut: &Option<Mono>) -> Option<Mono>
     requires known { IsCut cut.now }
-    requires room { cut_degree cut.now * p ≤ 60000 }
+    requires room { cut_degree cut.now * p ≤ MAX_DEGREE }
     ensures value { result ≡ cut_raised p cut.now }
     ensures known { IsCut result }
 {
@@ -213,7 +214,7 @@ fn cut_power(p: Prime, cut: &Option<Mono>) -> Option<Mono>
 // The top with the p-th powers of all monomials.
 fn top_power(alloc: Global, p: Prime, top: &Top) -> Result<Top, AllocError>
     requires top { IsTop p top.now }
-    requires room { reach top.now * p ≤ 60000 }
+    requires room { reach top.now * p ≤ MAX_DEGREE }
     ensures top { IfOk result (λ t. IsTop p t) }
     ensures value { IfOk result (λ t. (g : List Term) → Agrees p top.now.cut top.now.terms.items g → Agrees p t.cut t.terms.items (frobenius p g)) }
     ensures reach { IfOk result (λ t. reach t ≤ reach top.now * p) }
@@ -236,7 +237,7 @@ fn with_factors(
     requires start { IsTop p start }
     requires terms { IsVector p a.now }
     requires plain { EachMono IsPlain a.now }
-    requires room { reach start + degree_of a.now * n ≤ 60000 }
+    requires room { reach start + degree_of a.now * n ≤ MAX_DEGREE }
     ensures top { IfOk result (λ t. IsTop p t) }
     ensures value { IfOk result (λ t. (k : ℕ) → Agrees p start.cut start.terms.items (power p a.now k) → Agrees p t.cut t.terms.items (power p a.now (k + n))) }
     ensures above { IfOk result (λ t. EachMono (Above t.cut) t.terms.items) }
@@ -255,12 +256,7 @@ fn one_top(alloc: Global, p: Prime) -> Result<Top, AllocError>
     ensures value { IfOk result (λ t. (t.cut ≡ None) × (t.terms.items ≡ one)) }
     ensures reach { IfOk result (λ t. reach t ≡ 0) }
 {
-    let _modulus = p.get();
-    let mut terms = Vec::new(alloc);
-    terms.push(Term {
-        coeff: 1,
-        mono: Mono::one(),
-    })?;
+    let terms = one(alloc, p)?;
     Ok(Top { terms, cut: None })
 }
 
@@ -277,7 +273,7 @@ pub(crate) fn power_top(
 ) -> Result<Top, AllocError>
     requires terms { IsVector p a.now }
     requires plain { EachMono IsPlain a.now }
-    requires room { degree_of a.now * n ≤ 60000 }
+    requires room { degree_of a.now * n ≤ MAX_DEGREE }
     ensures top { IfOk result (λ t. IsTop p t) }
     ensures value { IfOk result (λ t. Agrees p t.cut t.terms.items (power p a.now n)) }
     ensures above { IfOk result (λ t. EachMono (Above t.cut) t.terms.items) }
@@ -315,7 +311,7 @@ enum Told {
 fn by_tops(alloc: Global, p: Prime, a: &[Term], n: u32, limit: usize) -> Result<Told, AllocError>
     requires terms { IsVector p a.now }
     requires plain { EachMono IsPlain a.now }
-    requires room { degree_of a.now * n ≤ 60000 }
+    requires room { degree_of a.now * n ≤ MAX_DEGREE }
     ensures { IfOk result (λ told. IsTold p (power p a.now n) limit told) }
 {
     let _modulus = p.get();
@@ -343,7 +339,7 @@ pub(crate) fn power_within(
 ) -> Result<Option<Vec<Term>>, AllocError>
     requires terms { IsVector p a.now }
     requires plain { EachMono IsPlain a.now }
-    requires room { degree_of a.now * n ≤ 60000 }
+    requires room { degree_of a.now * n ≤ MAX_DEGREE }
     ensures few { IfOk result (λ r. IfSome r (λ v. (v.items ≡ power p a.now n) × IsVector p v.items × (length v.items ≤ limit))) }
     ensures many { IfOk result (λ r. IsNone r → limit < length (power p a.now n)) }
 {

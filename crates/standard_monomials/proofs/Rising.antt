@@ -10,7 +10,7 @@ use Rattle.std.proofs.lemmas.List.Sorted.{searchable_from_sorted, IsPermutation-
 use Rattle.std.proofs.lemmas.List.Edits.{length-insert, get_or-insert_below, get_or-insert_at, get_or-insert_above}
 use Rattle.monomials.specs.Mono.{Monomial, cmp_dp}
 use Rattle.monomials.proofs.Order.{dp_total, same_dp, self_dp, turn_up, turn_down}
-use Rattle.polys.proofs.Unique.{contains_cases, contains_head, contains_tail}
+use Rattle.ideal_laws.proofs.Unique.{contains_cases, contains_head, contains_tail}
 use Rattle.standard_monomials.specs.Standard.{AreDistinct, IsRising}
 use Rattle.standard_monomials.specs.Finding.{Gains}
 

@@ -15,14 +15,14 @@ use Rattle.polys.specs.Terms.{IsPoly, keep, add, sub, mul, products}
 use Rattle.polys.specs.Ideal.{InIdeal, number_combination, Spans}
 use Rattle.polys.specs.Ring.{Member}
 use Rattle.polys.proofs.Affine.{constant, poly_constant, mul_constant, sevens_of}
-use Rattle.polys.proofs.Ideals.{in_none, in_add, in_mul}
+use Rattle.ideal_laws.proofs.Ideals.{in_none, in_add, in_mul}
 use Rattle.polys.proofs.Instance.{polynomials}
 use Rattle.polys.proofs.Sums.{add_normal_left, add_normal_right, mul_normal_left, mul_normal_right}
-use Rattle.polys.proofs.Unique.{contains_head, contains_tail, contains_cases, contains_none}
+use Rattle.ideal_laws.proofs.Unique.{contains_head, contains_tail, contains_cases, contains_none}
 use Rattle.polys.proofs.Weights.{Alike, weigh, normal_ext}
 use Rattle.homogenising.proofs.Spanning.{pos, two}
-use Rattle.polys.proofs.Constants.{constant_sum, constant_product}
-use Rattle.polys.proofs.Members.{lift, length-lift}
+use Rattle.ideal_laws.proofs.Constants.{constant_sum, constant_product}
+use Rattle.ideal_laws.proofs.Members.{lift, length-lift}
 
 -- ---- lists of polynomials as lists of members
 

@@ -13,7 +13,7 @@ use Rattle.monomials.proofs.Order.{same_dp, self_dp, multiple_not_less, turn_dow
 use Rattle.polys.specs.declared.term.Term.{Term}
 use Rattle.polys.specs.Terms.{IsAffine}
 use Rattle.polys.proofs.Affine.{affine_times, only_zeros}
-use Rattle.polys.proofs.Unique.{contains_cases, contains_none, contains_head}
+use Rattle.ideal_laws.proofs.Unique.{contains_cases, contains_none, contains_head}
 use Rattle.graded_modules.specs.Module.{IsLeadMultiple}
 use Rattle.standard_monomials.specs.Standard.{IsStandard, IsRising}
 use Rattle.standard_monomials.specs.Finding.{Gains, IsNext, GainsMultiples}

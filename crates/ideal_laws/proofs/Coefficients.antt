@@ -11,7 +11,7 @@ use Rattle.monomials.proofs.Exponents.{get_or-pointwise}
 use Rattle.monomials.proofs.Order.{same_dp, cmp_dp-times}
 use Rattle.polys.specs.declared.term.Term.{Term}
 use Rattle.polys.specs.Terms.{EachMono, coefficient, normal, scaled, scale, products, derived}
-use Rattle.polys.specs.Laws.{row_at, pairs_at, CoefficientLaws}
+use Rattle.ideal_laws.specs.Laws.{row_at, pairs_at, CoefficientLaws}
 use Rattle.polys.proofs.Weights.{weigh, tie, same, Canon, canon, canon_ext, none_under, normal_canon, weigh-normal, weigh-append}
 use Rattle.polys.proofs.Affine.{sevens_of}
 use Rattle.polys.proofs.Derivatives.{lowered, times-lowered, seven_lowered}

@@ -5,9 +5,9 @@ use Rattle.std.proofs.lemmas.List.Elements.{All-contains}
 use Rattle.polys.specs.declared.term.Term.{Term}
 use Rattle.polys.specs.Terms.{IsPoly, add, sub, multiple, mul}
 use Rattle.polys.specs.Ideal.{InIdeal}
-use Rattle.polys.specs.Laws.{IdealLaws}
+use Rattle.ideal_laws.specs.Laws.{IdealLaws}
 use Rattle.polys.proofs.Affine.{constant, mul_constant, poly_constant, poly_none, poly_one, poly_add, poly_mul, sevens_of}
-use Rattle.polys.proofs.Combinations.{IsCombined, combined_none, combined_add, combined_mul, combined_more, combined_head, combined_member, combined_holds}
+use Rattle.ideal_laws.proofs.Combinations.{IsCombined, combined_none, combined_add, combined_mul, combined_more, combined_head, combined_member, combined_holds}
 
 module _ (p n : ℕ) where
   combined : {gs : List (List Term)} {f : List Term} → InIdeal p n gs f → IsCombined p (IsPoly p n) gs f

@@ -7,7 +7,7 @@ use Rattle.polys.specs.declared.term.Term.{Term}
 use Rattle.polys.specs.Terms.{EachMono, IsCanonical, normal, add, multiple, mul, one, products}
 use Rattle.polys.specs.Ideal.{combination}
 use Rattle.polys.proofs.Leads.{Seven}
-use Rattle.polys.proofs.Multiples.{multiple-add, multiple-mul}
+use Rattle.ideal_laws.proofs.Multiples.{multiple-add, multiple-mul}
 use Rattle.polys.proofs.Sums.{normal_normal, add_comm, add_medial, add-mul, mul-add, mul_assoc, mul_none}
 use Rattle.polys.proofs.Units.{one_mul, canonical_same}
 

@@ -4,7 +4,7 @@ use Rattle.polys.specs.declared.term.Term.{Term}
 use Rattle.polys.specs.Terms.{IsCanonical, normal, add, sub, scaled, multiple, products, mul}
 use Rattle.polys.proofs.Sums.{normal_normal, add_comm, add_assoc, add_normal_left, add_normal_right, add-mul, mul_normal_left}
 use Rattle.polys.proofs.Units.{sub_self, add_none, canonical_same}
-use Rattle.polys.proofs.Multiples.{multiple-add, multiple-normal}
+use Rattle.ideal_laws.proofs.Multiples.{multiple-add, multiple-normal}
 
 -- ---- x - y is z if and only if x is y + z
 

@@ -11,12 +11,12 @@ use Rattle.polys.specs.declared.term.Term.{Term}
 use Rattle.polys.specs.Terms.{EachMono, IsPoly, IsMonic, sub, add, scaled, multiple}
 use Rattle.polys.specs.Ideal.{InIdeal}
 use Rattle.polys.specs.Reduced.{Reduced, leads, lower_monos, IsLead}
-use Rattle.polys.specs.Laws.{ReducedIsUnique}
+use Rattle.ideal_laws.specs.Laws.{ReducedIsUnique}
 use Rattle.polys.proofs.Sums.{add_assoc, add_comm}
 use Rattle.polys.proofs.Units.{sub_self, add_none}
 use Rattle.polys.proofs.Each.{every_append, every_normal, every_multiple, every_more}
-use Rattle.polys.proofs.Ideals.{in_generator, in_sub, in_poly}
-use Rattle.polys.proofs.Differences.{sub_cons}
+use Rattle.ideal_laws.proofs.Ideals.{in_generator, in_sub, in_poly}
+use Rattle.ideal_laws.proofs.Differences.{sub_cons}
 
 -- ---- rising lists with the same members are equal
 
