@@ -108,7 +108,7 @@ fn tried(
     ensures good { IfOk result (λ l. IsGood (problem_data problem.now) cap d.now.terms) }
     ensures reason { IfErr result (λ stop. IsReason (problem_data problem.now) cap d.now.terms stop) }
 {
-    let _p = problem.prime.get();
+    let _prime = problem.prime.get();
     let generators = problem.generators.as_slice();
     let lifted = match Lifted::over_basis(
         alloc,
@@ -127,7 +127,7 @@ fn tried(
     if !lifted.is_regular()? {
         return Err(PickStop::ZeroDivisor);
     }
-    match lifted.dimension(alloc, 256)? {
+    match lifted.small_dimension() {
         Dimension::Finite(_) => Ok(lifted),
         Dimension::Wide => Err(PickStop::Wide),
         Dimension::Infinite => Err(PickStop::Infinite),
@@ -204,7 +204,7 @@ fn by_hand(
     ensures found { IfOk result (λ l. IsPicked (problem_data problem.now) cap l) }
     ensures cause { IfErr result (λ stop. IsCause (problem_data problem.now) cap stop) }
 {
-    let _p = problem.prime.get();
+    let _prime = problem.prime.get();
     let monic = d.monic()?;
     tried(alloc, problem, basis, &monic, cap)
 }

@@ -85,7 +85,7 @@ fn one_alone(alloc: Global, prime: Prime) -> Result<List<Poly>, NoMemory>
 pub fn one(alloc: Global, prime: Prime) -> Result<Poly, NoMemory>
     ensures { IfOk result (λ f. f ≡ record { prime = prime; terms = one }) }
 {
-    let _p = prime.get();
+    let _prime = prime.get();
     Poly::from_term(
         alloc,
         prime,

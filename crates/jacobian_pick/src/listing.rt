@@ -27,7 +27,7 @@ fn first_list(alloc: Global, problem: &Problem, basis: &[Poly]) -> Result<List<P
     ensures low { IfOk result (λ ms. All (IsUpTo problem.now.prime (length problem.now.letters) 118) ms) }
     ensures exact { IfOk result (λ ms. AreFirst (problem_data problem.now) (terms_of ms)) }
 {
-    let _p = problem.prime.get();
+    let _prime = problem.prime.get();
     let variables = variables_of(problem);
     let raw = jacobian(
         alloc,
@@ -51,7 +51,7 @@ fn second_list(
     ensures low { IfOk result (λ ms. All (IsUpTo problem.now.prime (length problem.now.letters) 119) ms) }
     ensures exact { IfOk result (λ ms. AreSecond (problem_data problem.now) (terms_of first.now) (terms_of ms)) }
 {
-    let _p = problem.prime.get();
+    let _prime = problem.prime.get();
     let raw = sums_by_numbers(alloc, problem.prime, variables_of(problem), six(first))?;
     kept(alloc, problem, basis, raw.as_slice())
 }
@@ -69,7 +69,7 @@ fn third_list(
     ensures low { IfOk result (λ ms. All (IsUpTo problem.now.prime (length problem.now.letters) 119) ms) }
     ensures exact { IfOk result (λ ms. AreThird (problem_data problem.now) (terms_of first.now) (terms_of ms)) }
 {
-    let _p = problem.prime.get();
+    let _prime = problem.prime.get();
     let raw = sums_by_variables(alloc, problem.prime, variables_of(problem), six(first))?;
     kept(alloc, problem, basis, raw.as_slice())
 }
@@ -89,11 +89,10 @@ pub fn candidates(alloc: Global, problem: &Problem, basis: &[Poly]) -> Result<Li
     ensures low { IfOk result (λ cs. All (IsUpTo problem.now.prime (length problem.now.letters) 119) cs) }
     ensures exact { IfOk result (λ cs. AreCandidates (problem_data problem.now) (terms_of cs)) }
 {
-    let first = first_list(alloc, problem, basis)?;
-    let second = second_list(alloc, problem, basis, first.as_slice())?;
-    let third = third_list(alloc, problem, basis, first.as_slice())?;
-    let mut all = first.into_vec();
-    all.append(&mut second.into_vec())?;
-    all.append(&mut third.into_vec())?;
-    Ok(List::of_vec(all))
+    let mut all = first_list(alloc, problem, basis)?;
+    let mut second = second_list(alloc, problem, basis, all.as_slice())?;
+    let mut third = third_list(alloc, problem, basis, all.as_slice())?;
+    all.append(&mut second)?;
+    all.append(&mut third)?;
+    Ok(all)
 }

@@ -29,7 +29,7 @@ pub fn is_member(problem: &Problem, basis: &[Poly], f: &Poly) -> Result<bool, No
     requires over { IsOver problem.now.prime (length problem.now.letters) f.now }
     ensures { IfOk result (λ yes. IsTrue yes ↔ InIdeal problem.now.prime (length problem.now.letters) (terms_of problem.now.generators) f.now.terms) }
 {
-    let _p = problem.prime.get();
+    let _prime = problem.prime.get();
     let rest = remainder(variables_of(problem), f, basis)?;
     Ok(rest.lead().is_none())
 }

@@ -81,7 +81,7 @@ fn push_variable_sums(
     requires g { IsUpTo prime variables 118 g.now }
     ensures { OnOk result (into.new ≡ into.old ++ polynomials prime (variable_sums prime variables f.now.terms g.now.terms)) }
 {
-    let _p = prime.get();
+    let _prime = prime.get();
     for v in 0..variables {
         let factor = Term {
             coeff: 1,

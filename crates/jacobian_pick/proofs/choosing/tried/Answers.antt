@@ -12,7 +12,7 @@ returns-in-Err-Deep-clause-reason c =
 pub returns-then-not-branch-clause-reason : goal.returns-then-not-branch-clause-reason
 returns-then-not-branch-clause-reason c =
     let known = c.in-Ok.ensures.«data» in
-    let r = regular c.args.problem.now (subst IsPrime c.get-p.ensures.value c.get-p.ensures.prime) c.requires.ready c.args.d.now c.in-Ok.lifted c.requires.denominator known.0 (known.1 ∙ c.variables_of.ensures.value) known.2
+    let r = regular c.args.problem.now (subst IsPrime c.get-prime.ensures.value c.get-prime.ensures.prime) c.requires.ready c.args.d.now c.in-Ok.lifted c.requires.denominator known.0 (known.1 ∙ c.variables_of.ensures.value) known.2
     (basis_as c.args.problem.now c.args.basis.now c.in-Ok.lifted.ideal c.requires.basis (known.3 ∙ c.in_ok-copied.ensures))
     in
     record {
@@ -23,11 +23,11 @@ returns-then-not-branch-clause-reason c =
 pub returns-in-Finite-clause-good : goal.returns-in-Finite-clause-good
 returns-in-Finite-clause-good c =
     let known = c.in-Ok.ensures.«data» in
-    let prime = subst IsPrime c.get-p.ensures.value c.get-p.ensures.prime in
+    let prime = subst IsPrime c.get-prime.ensures.value c.get-prime.ensures.prime in
     let basis = basis_as c.args.problem.now c.args.basis.now c.in-Ok.lifted.ideal c.requires.basis (known.3 ∙ c.in_ok-copied.ensures) in
     let r = regular c.args.problem.now prime c.requires.ready c.args.d.now c.in-Ok.lifted c.requires.denominator known.0 (known.1 ∙ c.variables_of.ensures.value) known.2 basis in
     let yes : IsTrue c.in_ok-is_regular.field-0 = cc in
-    let f = (c.in_ok-dimension.ensures.finite c.in-Finite.field-0).0 c.in-Finite.is in
+    let f = (c.small_dimension.ensures.finite c.in-Finite.field-0).0 c.in-Finite.is in
     record {
       allowed = record {
         not_deep = no_deep_module c.args.problem.now c.args.cap c.args.d.now c.variables_of.result c.as_slice-generators.result.now c.variables_of.ensures.value c.as_slice-generators.ensures c.in-Ok.ensures.not_deep;
@@ -43,11 +43,11 @@ returns-in-Finite-clause-good c =
 pub returns-in-Wide-clause-reason : goal.returns-in-Wide-clause-reason
 returns-in-Wide-clause-reason c =
     let known = c.in-Ok.ensures.«data» in
-    let prime = subst IsPrime c.get-p.ensures.value c.get-p.ensures.prime in
+    let prime = subst IsPrime c.get-prime.ensures.value c.get-prime.ensures.prime in
     let basis = basis_as c.args.problem.now c.args.basis.now c.in-Ok.lifted.ideal c.requires.basis (known.3 ∙ c.in_ok-copied.ensures) in
     let r = regular c.args.problem.now prime c.requires.ready c.args.d.now c.in-Ok.lifted c.requires.denominator known.0 (known.1 ∙ c.variables_of.ensures.value) known.2 basis in
     let yes : IsTrue c.in_ok-is_regular.field-0 = cc in
-    let w = c.in_ok-dimension.ensures.wide.0 c.in-Wide.is in (
+    let w = c.small_dimension.ensures.wide.0 c.in-Wide.is in (
       record {
         not_deep = no_deep_module c.args.problem.now c.args.cap c.args.d.now c.variables_of.result c.as_slice-generators.result.now c.variables_of.ensures.value c.as_slice-generators.ensures c.in-Ok.ensures.not_deep;
         regular = r.0 (c.in_ok-is_regular.ensures.0 yes);
@@ -58,7 +58,7 @@ returns-in-Wide-clause-reason c =
 pub returns-in-Infinite-clause-reason : goal.returns-in-Infinite-clause-reason
 returns-in-Infinite-clause-reason c =
     let known = c.in-Ok.ensures.«data» in
-    let prime = subst IsPrime c.get-p.ensures.value c.get-p.ensures.prime in
+    let prime = subst IsPrime c.get-prime.ensures.value c.get-prime.ensures.prime in
     let basis = basis_as c.args.problem.now c.args.basis.now c.in-Ok.lifted.ideal c.requires.basis (known.3 ∙ c.in_ok-copied.ensures) in
     let r = regular c.args.problem.now prime c.requires.ready c.args.d.now c.in-Ok.lifted c.requires.denominator known.0 (known.1 ∙ c.variables_of.ensures.value) known.2 basis in
     let yes : IsTrue c.in_ok-is_regular.field-0 = cc in (
@@ -66,5 +66,5 @@ returns-in-Infinite-clause-reason c =
         not_deep = no_deep_module c.args.problem.now c.args.cap c.args.d.now c.variables_of.result c.as_slice-generators.result.now c.variables_of.ensures.value c.as_slice-generators.ensures c.in-Ok.ensures.not_deep;
         regular = r.0 (c.in_ok-is_regular.ensures.0 yes);
       },
-      infinite c.args.problem.now prime c.requires.ready c.args.d.now c.in-Ok.lifted c.requires.denominator known.0 (known.1 ∙ c.variables_of.ensures.value) known.2 basis (c.in_ok-dimension.ensures.infinite.0 c.in-Infinite.is),
+      infinite c.args.problem.now prime c.requires.ready c.args.d.now c.in-Ok.lifted c.requires.denominator known.0 (known.1 ∙ c.variables_of.ensures.value) known.2 basis (c.small_dimension.ensures.infinite.0 c.in-Infinite.is),
     )
