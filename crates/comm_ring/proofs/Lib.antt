@@ -12,6 +12,7 @@ pub mod Linear
 pub mod Exchange
 pub mod Dimension
 pub mod Fields
+pub mod Freshman
 pub mod Rows
 pub mod Ideals
 pub mod Takes

@@ -1,6 +1,6 @@
 -- A curve as a ring modulo an ideal, and its fractions as those of that ring.
-use Rattle.std.proofs.Common.{◌≡◌, ℕ, zero, suc, ◌<◌, ◌≤◌, List, refl, sym, ap, ap₂, subst, arith}
-use Rattle.prime_field.specs.Primes.{IsPrime}
+use Rattle.std.proofs.Common.{◌≡◌, ℕ, zero, suc, ◌<◌, List, refl, sym, ap, ap₂, subst}
+use Rattle.prime_field.proofs.Table.{above_one}
 use Rattle.comm_ring.specs.Ring.{Ops, CommRing, pow}
 use Rattle.comm_ring.specs.Ideals as Ideals
 use Rattle.comm_ring.proofs.Ideals as IdealLaws
@@ -14,10 +14,8 @@ use Rattle.polys.specs.Curve.{CurveData}
 use Rattle.polys.specs.Ring.{Member}
 use Rattle.curve_model.specs.Fraction.{Fraction, IsFraction, AreEqual, denominator_power}
 use Rattle.curve_model.specs.Laws.{IsRegular}
-use Rattle.curve_laws.proofs.Members.{R, lift, ideal_from, ideal_to}
-
-pub above_one : (p : ℕ) → IsPrime p → 1 < p
-above_one p prime = let l : 2 ≤ p = prime.0 in omega arith
+use Rattle.curve_laws.proofs.Members.{R, ideal_from, ideal_to}
+use Rattle.ideal_laws.proofs.Members.{lift}
 
 module _ (A : CurveData) (c : IsRegular A) where
   abbrev pub p : ℕ

@@ -11,7 +11,7 @@ use Rattle.polys.specs.Terms.{IsPoly, one, product}
 use Rattle.polys.specs.Ideal.{InIdeal}
 use Rattle.polys.specs.Curve.{CurveData}
 use Rattle.polys.proofs.Affine.{positive}
-use Rattle.polys.proofs.Ideals.{in_poly}
+use Rattle.ideal_laws.proofs.Ideals.{in_poly}
 use Rattle.curve_model.specs.Fraction.{Fraction, IsFraction, InA, over, sum_of, product_of, multiple_of}
 use Rattle.curve_model.specs.Local.{Local, LocalAt, AreMembers, TakesIntoA}
 use Rattle.curve_model.specs.Point.{IsPoint}
@@ -20,7 +20,8 @@ use Rattle.curve_model.specs.Laws.{IsFinite, ArePolys}
 use Rattle.curve_model.specs.Rings.{IsFractionRing, KeepsRadical}
 use Rattle.curve_model.specs.Enlarging.{IsLocalRing}
 use Rattle.curve_model.specs.Closing.{ChainStarts, ChainGoesOn}
-use Rattle.curve_laws.proofs.Members.{lift, terms-lift, ideal_to}
+use Rattle.curve_laws.proofs.Members.{ideal_to}
+use Rattle.ideal_laws.proofs.Members.{lift, terms-lift}
 use Rattle.curve_laws.proofs.Facts.{contains_member}
 use Rattle.curve_laws.proofs.Chains.{flip, over_none}
 use Rattle.curve_laws.proofs.Base.{high, Ring, d, Q, Curve, member, equal_down}

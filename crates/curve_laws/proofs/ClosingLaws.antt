@@ -5,8 +5,8 @@ use Rattle.polys.specs.Terms.{IsPoly}
 use Rattle.polys.specs.Ideal.{InIdeal}
 use Rattle.polys.specs.Curve.{CurveData}
 use Rattle.polys.proofs.Affine.{positive}
-use Rattle.polys.proofs.Ideals.{in_poly}
-use Rattle.polys.proofs.Unique.{unique_law}
+use Rattle.ideal_laws.proofs.Ideals.{in_poly}
+use Rattle.ideal_laws.proofs.Unique.{unique_law}
 use Rattle.curve_model.specs.Fraction.{Fraction, IsFraction, AreEqual, over}
 use Rattle.curve_model.specs.Local.{LocalAt}
 use Rattle.curve_model.specs.Closure.{Closure, InModule}

@@ -1,17 +1,17 @@
--- Unique coordinates, decided membership and the dimension modulo powers of d, at polynomials.
-use Rattle.std.proofs.Common.{◌≡◌, ℕ, ◌*◌, ◌%◌, ◌<◌, List, [], ◌∷◌, map, length, All, refl, sym, ap, ap₂, ◌∙◌, subst, mod-eq_of_lt, mod-lt}
-use native.Mathlib.Nat.{mod-mod}
+-- Unique coordinates, decided membership, dimensions counted by bases, and the dimension modulo powers of d, at polynomials.
+use Rattle.std.proofs.Common.{◌≡◌, ℕ, ◌*◌, ◌%◌, ◌<◌, ◌≤◌, List, [], ◌∷◌, map, length, All, refl, sym, ap, ap₂, ◌∙◌, subst, arith, mod-eq_of_lt, mod-lt}
+use native.Mathlib.Nat.{mod-mod, zero-mod}
 use Rattle.std.specs.List.{AllZip}
 use Rattle.std.proofs.lemmas.List.{length-map}
 use Rattle.std.proofs.lemmas.List.Elements.{All-nil, All-cons, All-head, All-tail}
 use Rattle.prime_field.specs.Primes.{IsPrime}
 use Rattle.comm_ring.specs.Ring.{CommRing, IsRingMap}
 use Rattle.comm_ring.specs.Residues.{residue_ops}
-use Rattle.comm_ring.specs.Modules.{IsSubmodule, combine, combination, Dimension, module_through}
+use Rattle.comm_ring.specs.Modules.{IsSubmodule, combine, combination, InSpan, Independent, Dimension, module_through}
 use Rattle.comm_ring.specs.Ideals as Ideals
 use Rattle.comm_ring.proofs.Residues.{residues}
 use Rattle.comm_ring.proofs.Fields.{residue_field, residue_coefficients}
-use Rattle.prime_field.proofs.Table.{positive_of_prime}
+use Rattle.prime_field.proofs.Table.{positive_of_prime, above_one}
 use Rattle.comm_ring.proofs.Ideals as IdealLaws
 use Rattle.comm_ring.proofs.Modules.{Module, through}
 use Rattle.comm_ring.proofs.Quotients.{quotient}
@@ -19,18 +19,19 @@ use Rattle.comm_ring.proofs.Dimension as Dimensions
 use Rattle.fraction_laws.proofs.CurveLaws as CurveLaws
 use Rattle.polys.specs.declared.term.Term.{Term}
 use Rattle.polys.specs.Terms.{IsPoly, keep, add, sub, mul}
-use Rattle.polys.specs.Ideal.{InIdeal, number_combination, HasDim}
+use Rattle.polys.specs.Ideal.{InIdeal, number_combination, Spans, HasDim}
 use Rattle.polys.specs.Curve.{CurveData}
 use Rattle.polys.specs.Ring.{Member}
+use Rattle.ideal_laws.proofs.Constants.{constant_sum, constant_product}
 use Rattle.polys.proofs.Affine.{constant, poly_constant, mul_constant, sevens_of, positive}
 use Rattle.monomials.specs.Mono.{unit}
 use Rattle.curve_model.specs.Fraction.{denominator_power}
 use Rattle.curve_model.specs.Laws.{IsFinite}
-use Rattle.curve_model.specs.Quotient.{CoordinatesAreUnique, MembershipIsDecided, PowersHaveDimension}
-use Rattle.curve_laws.proofs.Members.{R, terms_of, lift, terms-lift, polys_of, ideal_from, ideal_to}
+use Rattle.curve_model.specs.Quotient.{CoordinatesAreUnique, MembershipIsDecided, BasesCountDimension, PowersHaveDimension}
+use Rattle.curve_laws.proofs.Members.{R, ideal_from, ideal_to}
+use Rattle.ideal_laws.proofs.Members.{terms_of, lift, terms-lift, polys_of, length-lift}
 use Rattle.curve_laws.proofs.Base as Base
-use Rattle.curve_laws.proofs.Base.{above_one}
-use Rattle.curve_laws.proofs.Locals.{length-lift, taken_up, taken_down}
+use Rattle.curve_laws.proofs.Locals.{taken_up, taken_down}
 use Rattle.curve_laws.proofs.Chains.{from_zero, of_zero}
 use Rattle.curve_laws.proofs.Scalars as Scalars
 
@@ -54,8 +55,8 @@ module _ (p n : ℕ) (prime : IsPrime p) where
   scalar_map = record {
     resp = λ x y e. ap (λ r. keep r unit []) e;
     one = ap (λ r. keep r unit []) (mod-eq_of_lt high);
-    add = Scalars.constant_sum p (positive p high);
-    mul = Scalars.constant_product p (positive p high);
+    add = constant_sum p (positive p high);
+    mul = constant_product p (positive p high);
   }
 
   combination-numbers : (cs : List ℕ) (us : List Poly) → (combination (module_through Ring.ops scalar) cs us).terms ≡ number_combination p cs (terms_of us)
@@ -72,6 +73,19 @@ module _ (p n : ℕ) (prime : IsPrime p) where
 
   differ-terms : (f : Poly) (cs : List ℕ) (us : List Poly) → (differ f cs us).terms ≡ sub p f.terms (number_combination p cs (terms_of us))
   differ-terms f cs us = ap (sub p f.terms) (combination-numbers cs us)
+
+  reduced-numbers : (cs : List ℕ) (vs : List (List Term)) → All (IsPoly p n) vs → number_combination p (map (λ e. e % p) cs) vs ≡ number_combination p cs vs
+  reduced-numbers [] vs h = refl
+  reduced-numbers (e ∷ cs) [] h = refl
+  reduced-numbers (e ∷ cs) (u ∷ vs) h =
+      let s = sevens_of p n u (All-head (IsPoly p n) u vs h) in
+      let k : constant p (e % p) ≡ constant p e = ap (λ r. keep r unit []) (mod-mod e p) in
+      ap₂ (add p) (sym (mul_constant p (e % p) u s) ∙ ap (λ z. mul p z u) k ∙ mul_constant p e u s)
+      (reduced-numbers cs vs (All-tail (IsPoly p n) u vs h))
+
+  below : (cs : List ℕ) → All (λ e. e < p) (map (λ e. e % p) cs)
+  below [] = All-nil (λ e. e < p)
+  below (e ∷ cs) = All-cons (λ b. b < p) (e % p) (map (λ b. b % p) cs) (mod-lt e (positive_of_prime p prime)) (below cs)
 
   module _ (gs : List (List Term)) (a : All (IsPoly p n) gs) where
     abbrev G : List Poly
@@ -139,28 +153,50 @@ module _ (p n : ℕ) (prime : IsPrime p) where
           go (yes i) = yes (ideal_to p n high gs a f (of_zero Ring (Ideals.InIdeal Ring.ops G) (IdealLaws.ideal_of_list Ring G) f i))
           go (no i) = no (λ w. i (from_zero Ring (Ideals.InIdeal Ring.ops G) (IdealLaws.ideal_of_list Ring G) f (ideal_from p n high gs a f w)))
 
+    -- a list that spans and is independent counts the dimension
+    module _ (vs : List (List Term)) (s : Spans p n gs vs) (i : (cs : List ℕ) → All (λ e. e < p) cs → length cs ≡ length vs → InIdeal p n gs (number_combination p cs vs) → All (λ e. e ≡ 0) cs) where
+      abbrev xs : List Poly
+      xs = lift p n vs s.polys
+
+      zeros : (cs : List ℕ) → All (λ e. e ≡ 0) (map (λ e. e % p) cs) → All (λ e. e % p ≡ 0 % p) cs
+      zeros [] h = All-nil (λ e. e % p ≡ 0 % p)
+      zeros (c ∷ cs) h = All-cons (λ e. e % p ≡ 0 % p) c cs (All-head (λ e. e ≡ 0) (c % p) (map (λ e. e % p) cs) h ∙ sym (zero-mod p)) (zeros cs (All-tail (λ e. e ≡ 0) (c % p) (map (λ e. e % p) cs) h))
+
+      independent : Independent (residue_ops p) space.ops xs
+      independent cs l e = zeros cs (i (map (λ b. b % p) cs) (below cs) (length-map cs (λ b. b % p) ∙ l ∙ length-lift p n vs s.polys)
+          (subst (InIdeal p n gs) (combination-numbers cs xs ∙ ap (number_combination p cs) (terms-lift p n vs s.polys) ∙ sym (reduced-numbers cs vs s.polys))
+          (ideal_to p n high gs a (number cs xs) (of_zero Ring (Ideals.InIdeal Ring.ops G) (IdealLaws.ideal_of_list Ring G) (number cs xs) e))))
+
+      span : (ws : List (List Term)) (t : Spans p n gs ws) (f : Poly) → InSpan space.ops (lift p n ws t.polys) f
+      span ws t f =
+          let w = t.each f.terms f.is_poly in (
+            w.residues,
+            w.as_many ∙ sym (length-lift p n ws t.polys),
+            ideal_from p n high gs a (differ f w.residues (lift p n ws t.polys))
+                (subst (InIdeal p n gs) (sym (differ-terms f w.residues (lift p n ws t.polys) ∙ ap (λ l. sub p f.terms (number_combination p w.residues l)) (terms-lift p n ws t.polys))) w.close),
+          )
+
+      counted : HasDim p n gs (length vs)
+      counted = record {
+        basis = vs;
+        as_many = refl;
+        spans = s;
+        least = λ ws l t.
+            let most : length xs ≤ length (lift p n ws t.polys) = Dimensions.spans_at_least K (residue_field p prime) space (λ f. Unit {0}) xs (lift p n ws t.polys) (λ k e b. tt) independent (λ f h. span ws t f) in
+            let b : length xs ≡ length vs = length-lift p n vs s.polys in
+            let d : length (lift p n ws t.polys) ≡ length ws = length-lift p n ws t.polys in
+            absurd (omega arith);
+      }
+
+pub counts_dimension_law : BasesCountDimension
+counts_dimension_law p n prime gs a us s i = counted p n prime gs a us s i
+
 pub decided_law : MembershipIsDecided
 decided_law p n prime gs a N D f h = decided p n prime gs a N D (record { terms = f; is_poly = h })
 
 -- ---- modulo powers of d
 
 module _ (A : CurveData) (c : IsFinite A) where
-  above : 0 < A.prime
-  above = positive_of_prime A.prime c.curve.prime
-
-  reduced-numbers : (cs : List ℕ) (vs : List (List Term)) → All (IsPoly A.prime A.variables) vs → number_combination A.prime (map (λ e. e % A.prime) cs) vs ≡ number_combination A.prime cs vs
-  reduced-numbers [] vs h = refl
-  reduced-numbers (e ∷ cs) [] h = refl
-  reduced-numbers (e ∷ cs) (u ∷ vs) h =
-      let s = sevens_of A.prime A.variables u (All-head (IsPoly A.prime A.variables) u vs h) in
-      let k : constant A.prime (e % A.prime) ≡ constant A.prime e = ap (λ r. keep r unit []) (mod-mod e A.prime) in
-      ap₂ (add A.prime) (sym (mul_constant A.prime (e % A.prime) u s) ∙ ap (λ z. mul A.prime z u) k ∙ mul_constant A.prime e u s)
-      (reduced-numbers cs vs (All-tail (IsPoly A.prime A.variables) u vs h))
-
-  below : (cs : List ℕ) → All (λ e. e < A.prime) (map (λ e. e % A.prime) cs)
-  below [] = All-nil (λ e. e < A.prime)
-  below (e ∷ cs) = All-cons (λ b. b < A.prime) (e % A.prime) (map (λ b. b % A.prime) cs) (mod-lt e above) (below cs)
-
   abbrev apart_from : Base.Poly A c.curve → List ℕ → List (Base.Poly A c.curve) → Base.Poly A c.curve
   apart_from f cs us = (Base.Ring A c.curve).◌⊕◌ f ((Base.Ring A c.curve).neg (combination (module_through (Base.Ring A c.curve).ops (Scalars.scalar A c)) cs us))
 
@@ -177,10 +213,10 @@ module _ (A : CurveData) (c : IsFinite A) where
               let s = D.3 (Base.member A c.curve f h) tt in
               record {
                 residues = map (λ e. e % A.prime) s.0;
-                below = below s.0;
+                below = below A.prime A.variables c.curve.prime s.0;
                 as_many = length-map s.0 (λ e. e % A.prime) ∙ s.1 ∙ sym (length-map D.0 (λ g. g.terms));
                 close = subst (InIdeal A.prime A.variables (denominator_power A t ∷ A.ideal))
-                    (ap (sub A.prime f) (Scalars.combination-numbers A c s.0 D.0 ∙ sym (reduced-numbers s.0 (terms_of D.0) (polys_of A.prime A.variables D.0))))
+                    (ap (sub A.prime f) (Scalars.combination-numbers A c s.0 D.0 ∙ sym (reduced-numbers A.prime A.variables c.curve.prime s.0 (terms_of D.0) (polys_of A.prime A.variables D.0))))
                     (taken_down A c.curve t (apart_from (Base.member A c.curve f h) s.0 D.0) s.2);
               };
         };

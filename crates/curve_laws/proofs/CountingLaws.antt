@@ -22,7 +22,7 @@ use Rattle.curve_model.specs.Delta.{AreIndependent, HasIndependent, HasDelta}
 use Rattle.curve_model.specs.Laws.{IsFinite, ArePolys}
 use Rattle.curve_model.specs.Rings.{IsFull}
 use Rattle.curve_model.specs.Enlarging.{IsLocalRing, difference_of, IsBasisModuloA, BasisCountsDelta, MembersAreLocal}
-use Rattle.curve_laws.proofs.Members.{lift}
+use Rattle.ideal_laws.proofs.Members.{lift}
 use Rattle.curve_laws.proofs.Base.{Q, Curve, d}
 use Rattle.curve_laws.proofs.Locals.{local_up}
 use Rattle.curve_laws.proofs.Scalars.{scalar, point_laws}

@@ -21,7 +21,7 @@ use Rattle.curve_model.specs.Local.{Local}
 use Rattle.curve_model.specs.Delta as Delta
 use Rattle.curve_model.specs.Delta.{AreIndependent, HasIndependent}
 use Rattle.curve_model.specs.Laws.{IsFinite, ArePolys, DeltaBoundsPower}
-use Rattle.curve_laws.proofs.Members.{lift}
+use Rattle.ideal_laws.proofs.Members.{lift}
 use Rattle.curve_laws.proofs.Facts.{same_member}
 use Rattle.curve_laws.proofs.Base.{high, Ring, I, d, Q, Curve, member}
 use Rattle.curve_laws.proofs.Locals.{local_up, local_down}

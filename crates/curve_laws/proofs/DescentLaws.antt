@@ -17,12 +17,13 @@ use Rattle.polys.specs.declared.term.Term.{Term}
 use Rattle.polys.specs.Terms.{IsPoly, power}
 use Rattle.polys.specs.Curve.{CurveData}
 use Rattle.polys.proofs.Affine.{poly_power, positive}
-use Rattle.polys.proofs.Ideals.{in_poly}
+use Rattle.ideal_laws.proofs.Ideals.{in_poly}
 use Rattle.curve_model.specs.Fraction.{Fraction, IsFraction, over, sum_of, product_of}
 use Rattle.curve_model.specs.Closure.{InModule}
 use Rattle.curve_model.specs.Laws.{IsFinite, ArePolys, power_of}
 use Rattle.curve_model.specs.Rings.{IsFractionRing, IsProduct, no_product, one_more, InRadical, IsFull, DescentLaw}
-use Rattle.curve_laws.proofs.Members.{lift, terms-lift, ideal_from, ideal_to}
+use Rattle.curve_laws.proofs.Members.{ideal_from, ideal_to}
+use Rattle.ideal_laws.proofs.Members.{lift, terms-lift}
 use Rattle.curve_laws.proofs.Facts.{same_member, contains_terms, contains_member}
 use Rattle.curve_laws.proofs.Chains.{chain, flip, add_both, mul_both}
 use Rattle.curve_laws.proofs.Base.{high, Ring, Poly, I, d, Q, Curve, member, pow-curve, equal_up, equal_down}

@@ -16,7 +16,7 @@ use Rattle.curve_model.specs.Closure.{InModule}
 use Rattle.curve_model.specs.Laws.{IsFinite, ArePolys}
 use Rattle.curve_model.specs.Rings.{KeepsRadical, IsFull}
 use Rattle.curve_model.specs.Enlarging.{IsLocalRing, Enlarges, Enlargement, FullIsLocal}
-use Rattle.curve_laws.proofs.Members.{lift}
+use Rattle.ideal_laws.proofs.Members.{lift}
 use Rattle.curve_laws.proofs.Base.{Ring, Poly, I, d, Q, member, equal_up}
 use Rattle.curve_laws.proofs.Locals.{local_up, local_down}
 use Rattle.curve_laws.proofs.ManyPoints.{point_up}

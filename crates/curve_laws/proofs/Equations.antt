@@ -13,7 +13,8 @@ use Rattle.polys.specs.Curve.{CurveData}
 use Rattle.curve_model.specs.Fraction.{Fraction, IsFraction, denominator_power}
 use Rattle.curve_model.specs.Integral.{Integral, lower_sum, monic_sum}
 use Rattle.curve_model.specs.Laws.{IsRegular}
-use Rattle.curve_laws.proofs.Members.{terms_of, lift, terms-lift, polys_of, ideal_from, ideal_to}
+use Rattle.curve_laws.proofs.Members.{ideal_from, ideal_to}
+use Rattle.ideal_laws.proofs.Members.{terms_of, lift, terms-lift, polys_of}
 use Rattle.curve_laws.proofs.Chains.{chain, flip, from_zero, of_zero}
 use Rattle.curve_laws.proofs.Base.{high, Ring, Poly, I, d, Q, Curve, member, pow-curve, pow_d}
 

@@ -9,7 +9,7 @@ use Rattle.monomials.specs.Mono.{Monomial}
 use Rattle.polys.specs.declared.term.Term.{Term}
 use Rattle.polys.specs.Terms.{IsPoly, IsCanonical, Under, EachMono, OnlyFirst, IsAffine}
 use Rattle.polys.specs.Ring.{Member}
-use Rattle.curve_laws.proofs.Members.{terms_of}
+use Rattle.ideal_laws.proofs.Members.{terms_of}
 
 under_prop : (m : Monomial) (f : List Term) → IsProp (Under m f)
 under_prop m [] = hlevel

@@ -1,19 +1,20 @@
 -- A point has one delta, and of independent local fractions any smaller number are there too.
-use Rattle.std.proofs.Common.{◌≡◌, ℕ, zero, suc, ◌<◌, ◌+◌, ◌*◌, List, [], ◌∷◌, length, All, refl, sym, ap, ◌∙◌, subst, arith}
+use Rattle.std.proofs.Common.{◌≡◌, ℕ, zero, suc, ◌<◌, ◌+◌, List, [], ◌∷◌, length, All, sym, ap, subst, arith}
 use Rattle.std.proofs.lemmas.List.Elements.{All-nil, All-cons, All-head, All-tail}
 use Rattle.polys.specs.declared.term.Term.{Term}
-use Rattle.polys.specs.Terms.{multiple, put, mul, sub}
+use Rattle.polys.specs.Terms.{mul, sub}
 use Rattle.polys.specs.Ideal.{InIdeal}
 use Rattle.polys.specs.Curve.{CurveData}
 use Rattle.polys.proofs.Affine.{poly_none}
-use Rattle.polys.proofs.Ideals.{in_none}
+use Rattle.ideal_laws.proofs.Multiples.{multiple_zero}
+use Rattle.ideal_laws.proofs.Ideals.{in_none}
 use Rattle.curve_model.specs.Fraction.{Fraction, IsFraction, InA, denominator_power, sum_of, multiple_of}
 use Rattle.curve_model.specs.Local.{Local, LocalAt}
 use Rattle.curve_model.specs.Delta as Delta
 use Rattle.curve_model.specs.Delta.{AreIndependent, HasIndependent}
 use Rattle.curve_model.specs.Laws.{IsFinite, ArePolys}
 use Rattle.curve_model.specs.OneDelta.{DeltaIsUnique, FewerAreIndependent}
-use Rattle.curve_laws.proofs.Members.{lift}
+use Rattle.ideal_laws.proofs.Members.{lift}
 use Rattle.curve_laws.proofs.Base.{high}
 use Rattle.curve_laws.proofs.Scalars.{point_laws}
 use Rattle.curve_laws.proofs.LocalRingLaws.{local_ring_law}
@@ -21,21 +22,13 @@ use Rattle.curve_laws.proofs.SplitLaws.{none_law}
 use Rattle.curve_laws.proofs.StatedLaws.{sum_poly}
 use Rattle.curve_laws.proofs.DeltaLaws.{multiple_poly, has_independent}
 use Rattle.curve_laws.proofs.CountingLaws.{has_independent_up}
-use native.Mathlib.Nat.{zero-mod}
-
-multiple_none : (p : ℕ) → (f : List Term) → multiple p 0 f ≡ []
-multiple_none p [] = refl
-multiple_none p (t ∷ f) = ap (put p (record { coeff = 0 * t.coeff; mono = t.mono })) (multiple_none p f) ∙ nothing
-  where
-    nothing : put p (record { coeff = 0 * t.coeff; mono = t.mono }) [] ≡ []
-    nothing = let z : 0 * t.coeff ≡ 0 = omega arith in rw z (rw (zero-mod p) refl)
 
 module _ (A : CurveData) (c : IsFinite A) where
   zero_in : (f : Fraction) → InA A (multiple_of A 0 f)
   zero_in f = (
     [],
     poly_none A.prime A.variables,
-    subst (λ a. InIdeal A.prime A.variables A.ideal (sub A.prime (mul A.prime a (denominator_power A 0)) (mul A.prime [] (denominator_power A f.exponent)))) (sym (multiple_none A.prime f.numerator)) (in_none A.prime A.variables A.ideal),
+    subst (λ a. InIdeal A.prime A.variables A.ideal (sub A.prime (mul A.prime a (denominator_power A 0)) (mul A.prime [] (denominator_power A f.exponent)))) (sym (multiple_zero A.prime f.numerator)) (in_none A.prime A.variables A.ideal),
   )
 
   poly : (cs : List ℕ) (fs : List Fraction) → All (IsFraction A) fs → IsFraction A (Delta.combination A cs fs)

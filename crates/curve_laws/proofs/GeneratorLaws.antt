@@ -7,7 +7,7 @@ use Rattle.polys.specs.Terms.{IsPoly}
 use Rattle.polys.specs.Ideal.{InIdeal}
 use Rattle.polys.specs.Curve.{CurveData}
 use Rattle.polys.proofs.Affine.{poly_power}
-use Rattle.polys.proofs.Ideals.{in_larger, in_head, in_more}
+use Rattle.ideal_laws.proofs.Ideals.{in_larger, in_head, in_more}
 use Rattle.curve_model.specs.Fraction.{Fraction, InA, EqualsOver, denominator_power}
 use Rattle.curve_model.specs.Integral.{Integral}
 use Rattle.curve_model.specs.Local.{Local, LocalAt, TakesIntoA}
@@ -16,7 +16,7 @@ use Rattle.curve_model.specs.Closure.{Closure}
 use Rattle.curve_model.specs.Delta as Delta
 use Rattle.curve_model.specs.Delta.{HasIndependent, HasDelta}
 use Rattle.curve_model.specs.Generators.{with_ideal, Agree, OneIdealOneClosure}
-use Rattle.curve_laws.proofs.Base.{above_one}
+use Rattle.prime_field.proofs.Table.{above_one}
 
 module _ (A : CurveData) (high : 1 < A.prime) (dp : IsPoly A.prime A.variables A.denominator) (J : List (List Term)) (up : All (InIdeal A.prime A.variables J) A.ideal) where
   abbrev B : CurveData

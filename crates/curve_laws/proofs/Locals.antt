@@ -1,5 +1,5 @@
 -- Fractions that are local at a list of polynomials, as fractions of the ring modulo I.
-use Rattle.std.proofs.Common.{◌≡◌, ℕ, List, [], ◌∷◌, length, All, refl, sym, ap, ap₂, ◌∙◌, subst}
+use Rattle.std.proofs.Common.{◌≡◌, ℕ, List, [], ◌∷◌, All, refl, sym, ap, ap₂, ◌∙◌, subst}
 use Rattle.std.specs.List.{Contains}
 use Rattle.std.proofs.lemmas.List.{length-map}
 use Rattle.std.proofs.lemmas.List.Elements.{All-nil, All-cons, All-head, All-tail, All-weaker, All-contains}
@@ -15,7 +15,8 @@ use Rattle.polys.specs.Ring.{Member}
 use Rattle.curve_model.specs.Fraction.{Fraction, IsFraction, denominator_power}
 use Rattle.curve_model.specs.Local.{Local}
 use Rattle.curve_model.specs.Laws.{IsRegular}
-use Rattle.curve_laws.proofs.Members.{terms_of, lift, terms-lift, ideal_up, ideal_down}
+use Rattle.curve_laws.proofs.Members.{ideal_up, ideal_down}
+use Rattle.ideal_laws.proofs.Members.{terms_of, lift, terms-lift, length-lift}
 use Rattle.curve_laws.proofs.Facts.{contains_terms, contains_member}
 use Rattle.curve_laws.proofs.Chains.{multiple_in, multiple_out}
 use Rattle.curve_laws.proofs.Base.{high, Ring, Poly, I, d, Q, member, pow_d}
@@ -38,9 +39,6 @@ contained_down p n P a [] h = All-nil (Contains P)
 contained_down p n P a (f ∷ l) h = All-cons (Contains P) f.terms (terms_of l)
     (subst (λ g. Contains g f.terms) (terms-lift p n P a) (contains_terms (lift p n P a) f (All-head (Contains (lift p n P a)) f l h)))
     (contained_down p n P a l (All-tail (Contains (lift p n P a)) f l h))
-
-pub length-lift : (p n : ℕ) (l : List (List Term)) (b : All (IsPoly p n) l) → length (lift p n l b) ≡ length l
-length-lift p n l b = sym (length-map (lift p n l b) (λ g. g.terms)) ∙ ap length (terms-lift p n l b)
 
 module _ (A : CurveData) (c : IsRegular A) where
   pub product-terms : (l : List (Poly A c)) → (Sums.product (Q A c) (λ x. x) l).terms ≡ product A.prime (terms_of l)

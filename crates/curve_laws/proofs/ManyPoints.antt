@@ -13,15 +13,16 @@ use Rattle.polys.specs.declared.term.Term.{Term}
 use Rattle.polys.specs.Terms.{IsPoly, mul, product, one}
 use Rattle.polys.specs.Ideal.{InIdeal}
 use Rattle.polys.specs.Curve.{CurveData}
-use Rattle.polys.proofs.Unique.{unique_law}
+use Rattle.ideal_laws.proofs.Unique.{unique_law}
 use Rattle.curve_model.specs.Fraction.{Fraction, IsFraction, denominator_power}
 use Rattle.curve_model.specs.Local.{AreMembers, LocalAt}
 use Rattle.curve_model.specs.Point.{IsPoint}
 use Rattle.curve_model.specs.Laws.{IsFinite, ArePolys, IsMaximal, HaveOneIdeal, HasAllPoints, ArePoints}
-use Rattle.curve_laws.proofs.Members.{terms_of, lift, terms-lift, polys_of, ideal_from, ideal_to, ideal_up, ideal_down}
+use Rattle.curve_laws.proofs.Members.{ideal_from, ideal_to, ideal_up, ideal_down}
+use Rattle.ideal_laws.proofs.Members.{terms_of, lift, terms-lift, polys_of, length-lift}
 use Rattle.curve_laws.proofs.Base.{high, Ring, Poly, I, d, Q, member}
 use Rattle.curve_laws.proofs.Equations.{integral_up, integral_down}
-use Rattle.curve_laws.proofs.Locals.{product-terms, members_poly, contained_up, contained_down, length-lift, taken_up, taken_down}
+use Rattle.curve_laws.proofs.Locals.{product-terms, members_poly, contained_up, contained_down, taken_up, taken_down}
 
 -- pairs of a longer list
 pub all_pairs_cons : {X : Type 0} (R : X → X → Type 0) (x : X) (xs : List X) → All (R x) xs → AllPairs R xs → AllPairs R (x ∷ xs)

@@ -1,7 +1,6 @@
 -- Polynomials as members of a commutative ring: lists, ideals and powers of the two kinds.
-use Rattle.std.proofs.Common.{◌≡◌, ℕ, zero, suc, ◌<◌, List, [], ◌∷◌, map, length, All, refl, sym, ap, ◌∙◌, subst}
+use Rattle.std.proofs.Common.{◌≡◌, ℕ, zero, suc, ◌<◌, List, [], ◌∷◌, length, All, refl, sym, ap, ◌∙◌, subst}
 use Rattle.std.proofs.lemmas.List.{length-map}
-use Rattle.std.proofs.lemmas.List.Elements.{All-nil, All-cons, All-head, All-tail}
 use Rattle.comm_ring.specs.Ring.{CommRing, pow}
 use Rattle.comm_ring.specs.Modules.{combine, combination, own_module}
 use Rattle.comm_ring.specs.Ideals as Ideals
@@ -11,24 +10,7 @@ use Rattle.polys.specs.Ideal as Polys
 use Rattle.polys.specs.Ideal.{InIdeal}
 use Rattle.polys.specs.Ring.{Member}
 use Rattle.polys.proofs.Instance.{polynomials}
-
--- the polynomials of a list of members
-abbrev pub terms_of : {p n : ℕ} → List (Member p n) → List (List Term)
-terms_of gs = map (λ g. g.terms) gs
-
--- a list of polynomials as members
-unfoldable pub lift : (p n : ℕ) (fs : List (List Term)) → All (IsPoly p n) fs → List (Member p n)
-lift p n [] a = []
-lift p n (f ∷ fs) a = record { terms = f; is_poly = All-head (IsPoly p n) f fs a } ∷ lift p n fs (All-tail (IsPoly p n) f fs a)
-
-pub terms-lift : (p n : ℕ) (fs : List (List Term)) (a : All (IsPoly p n) fs) → terms_of (lift p n fs a) ≡ fs
-unfolding lift
-terms-lift p n [] a = refl
-terms-lift p n (f ∷ fs) a = ap (λ l. f ∷ l) (terms-lift p n fs (All-tail (IsPoly p n) f fs a))
-
-pub polys_of : (p n : ℕ) (gs : List (Member p n)) → All (IsPoly p n) (terms_of gs)
-polys_of p n [] = All-nil (IsPoly p n)
-polys_of p n (g ∷ gs) = All-cons (IsPoly p n) g.terms (terms_of gs) g.is_poly (polys_of p n gs)
+use Rattle.ideal_laws.proofs.Members.{terms_of, lift, terms-lift, polys_of}
 
 module _ (p n : ℕ) (h : 1 < p) where
   abbrev pub R : CommRing

@@ -10,7 +10,7 @@ use Rattle.polys.specs.Terms.{IsPoly, add, sub, mul, multiple}
 use Rattle.polys.specs.Ideal.{InIdeal, number_combination}
 use Rattle.polys.specs.Curve.{CurveData}
 use Rattle.polys.proofs.Affine.{poly_none, poly_add, poly_sub, poly_mul, poly_multiple, poly_constant, constant, mul_constant, sevens_of, positive}
-use Rattle.polys.proofs.Ideals.{in_poly}
+use Rattle.ideal_laws.proofs.Ideals.{in_poly}
 use Rattle.curve_model.specs.Fraction.{Fraction, IsFraction, AreEqual, EqualsOver, InA, over, sum_of, multiple_of, product_of}
 use Rattle.curve_model.specs.Closure.{InModule}
 use Rattle.curve_model.specs.Delta as Delta

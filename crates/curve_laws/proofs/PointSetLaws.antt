@@ -9,9 +9,9 @@ use Rattle.polys.specs.Ideal.{InIdeal}
 use Rattle.polys.specs.Curve.{CurveData, data_of}
 use Rattle.polys.proofs.Sums.{mul_assoc, mul_comm}
 use Rattle.polys.proofs.Units.{mul_one}
-use Rattle.polys.proofs.Affine.{poly_none, poly_one, poly_mul, sevens_of}
-use Rattle.polys.proofs.Ideals.{in_mul, in_none}
-use Rattle.polys.proofs.Unique.{contains_cases, contains_none, contains_head, contains_tail}
+use Rattle.polys.proofs.Affine.{poly_none, poly_one, poly_mul, sevens_of, poly_product}
+use Rattle.ideal_laws.proofs.Ideals.{in_mul, in_none}
+use Rattle.ideal_laws.proofs.Unique.{contains_cases, contains_none, contains_head, contains_tail}
 use Rattle.curve_model.specs.Fraction.{Fraction, IsFraction, InA, denominator_power, sum_of}
 use Rattle.curve_model.specs.Local.{Local, LocalAt, AreMembers, TakesIntoA}
 use Rattle.curve_model.specs.Laws.{IsFinite, ArePolys, SumOfParts, total}
@@ -36,17 +36,13 @@ module _ (A : CurveData) (c : IsFinite A) where
   abbrev Poly : List Term → Type 0
   Poly f = IsPoly A.prime A.variables f
 
-  product_poly : (l : List (List Term)) → All Poly l → Poly (product A.prime l)
-  product_poly [] h = poly_one A.prime A.variables above
-  product_poly (x ∷ l) h = poly_mul A.prime A.variables x (product A.prime l) pos (All-head Poly x l h) (product_poly l (All-tail Poly x l h))
-
   products_poly : (S : List (List (List Term))) → All (ArePolys A) S → (m : ℕ) (ls : List (List (List Term))) → AllZip (AreMembers m) S ls → Poly (product A.prime (map (product A.prime) ls))
   products_poly [] h m [] z = poly_one A.prime A.variables above
   products_poly [] h m (l ∷ ls) z = absurd z
   products_poly (P ∷ S) h m [] z = absurd z
   products_poly (P ∷ S) h m (l ∷ ls) z =
       poly_mul A.prime A.variables (product A.prime l) (product A.prime (map (product A.prime) ls)) pos
-      (product_poly l (members_poly A.prime A.variables P l (All-head (ArePolys A) P S h) z.0.members)) (products_poly S (All-tail (ArePolys A) P S h) m ls z.1)
+      (poly_product A.prime A.variables l above (members_poly A.prime A.variables P l (All-head (ArePolys A) P S h) z.0.members)) (products_poly S (All-tail (ArePolys A) P S h) m ls z.1)
 
   -- multiples of what is taken into A are taken
   more : (h x : List Term) (f : Fraction) → Poly h → TakesIntoA A x f → TakesIntoA A (mul A.prime h x) f
@@ -65,13 +61,13 @@ module _ (A : CurveData) (c : IsFinite A) where
       where
         go : (R ≡ P) ⊎ Contains S P → (Contains S P → TakesIntoA A (product A.prime (map (product A.prime) ls)) f) → TakesIntoA A (product A.prime (map (product A.prime) (l ∷ ls))) f
         go (inl e) rest = swapped (product A.prime (map (product A.prime) ls)) (product A.prime l) f (products_poly S (All-tail (ArePolys A) R S q) w.m ls z.1) (w.takes l (subst (λ u. AreMembers w.m u l) e z.0))
-        go (inr r) rest = more (product A.prime l) (product A.prime (map (product A.prime) ls)) f (product_poly l (members_poly A.prime A.variables R l (All-head (ArePolys A) R S q) z.0.members)) (rest r)
+        go (inr r) rest = more (product A.prime l) (product A.prime (map (product A.prime) ls)) f (poly_product A.prime A.variables l above (members_poly A.prime A.variables R l (All-head (ArePolys A) R S q) z.0.members)) (rest r)
 
-    local_at : (S : List (List (List Term))) → All (ArePolys A) S → Contains S P → LocalAt A S f
+    pub local_at : (S : List (List (List Term))) → All (ArePolys A) S → Contains S P → LocalAt A S f
     local_at S q k = record { integral = w.integral; m = w.m; takes = take S q k }
 
   module _ (S : List (List (List Term))) (q : All (ArePolys A) S) where
-    whole_at : (f : Fraction) → IsFraction A f → InA A f → LocalAt A S f
+    pub whole_at : (f : Fraction) → IsFraction A f → InA A f → LocalAt A S f
     whole_at f h i =
         let l : LocalAt A [] f = (none_law A c f h).1 i in
         record {

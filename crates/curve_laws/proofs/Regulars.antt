@@ -13,7 +13,8 @@ use Rattle.curve_model.specs.Fraction.{Fraction, IsFraction, AreEqual}
 use Rattle.curve_model.specs.Integral.{Integral}
 use Rattle.curve_model.specs.Local.{Local}
 use Rattle.curve_model.specs.Laws.{IsRegular, ArePolys, EqualFractionsAgree}
-use Rattle.curve_laws.proofs.Members.{lift, ideal_from, ideal_to}
+use Rattle.curve_laws.proofs.Members.{ideal_from, ideal_to}
+use Rattle.ideal_laws.proofs.Members.{lift}
 use Rattle.curve_laws.proofs.Chains.{flip}
 use Rattle.curve_laws.proofs.Base.{high, Ring, Poly, I, d, Q, Curve, member, equal_up, equal_down}
 use Rattle.curve_laws.proofs.Equations.{integral_up, integral_down}

@@ -1,11 +1,11 @@
 -- Residues as constant polynomials, and the dimension modulo d over them.
-use Rattle.std.proofs.Common.{◌≡◌, ℕ, ◌+◌, ◌*◌, ◌%◌, ◌<◌, List, [], ◌∷◌, ◌++◌, refl, sym, ap, ap₂, ◌∙◌, subst, mod-eq_of_lt}
+use Rattle.std.proofs.Common.{◌≡◌, ℕ, ◌<◌, List, [], ◌∷◌, ◌++◌, refl, sym, ap, ap₂, ◌∙◌, subst, mod-eq_of_lt}
 use Rattle.std.proofs.lemmas.List.{length-map}
 use Rattle.comm_ring.specs.Ring.{CommRing, IsRingMap}
 use Rattle.comm_ring.specs.Residues.{residue_ops}
 use Rattle.comm_ring.specs.Modules.{ModuleOps, combine, combination, Dimension, module_through, IsSubmodule}
 use Rattle.comm_ring.specs.Ideals as Ideals
-use Rattle.comm_ring.proofs.Residues.{residues, mod_ring, mod_quote}
+use Rattle.comm_ring.proofs.Residues.{residues}
 use Rattle.comm_ring.proofs.Fields.{residue_coefficients}
 use Rattle.prime_field.proofs.Table.{positive_of_prime}
 use Rattle.comm_ring.proofs.Ideals as IdealLaws
@@ -17,38 +17,16 @@ use Rattle.fraction_laws.proofs.CurveLaws as CurveLaws
 use Rattle.point_laws.specs.Laws.{PointLaws}
 use Rattle.point_laws.proofs.CurvePoints as CurvePoints
 use Rattle.monomials.specs.Mono.{unit}
-use Rattle.polys.specs.declared.term.Term.{Term}
-use Rattle.polys.specs.Terms.{keep, add, sub, mul, products}
+use Rattle.polys.specs.Terms.{keep, add, sub}
 use Rattle.polys.specs.Ideal.{InIdeal, number_combination}
 use Rattle.polys.specs.Curve.{CurveData}
-use Rattle.polys.proofs.Weights.{Alike, weigh, normal_ext}
-use Rattle.polys.proofs.Sums.{add_normal_left, add_normal_right, mul_normal_left, mul_normal_right}
+use Rattle.ideal_laws.proofs.Constants.{constant_sum, constant_product}
 use Rattle.polys.proofs.Affine.{constant, poly_constant, mul_constant, sevens_of, positive}
 use Rattle.curve_model.specs.Laws.{IsFinite}
-use Rattle.curve_laws.proofs.Members.{terms_of, lift, terms-lift, polys_of, ideal_up, ideal_down}
-use Rattle.curve_laws.proofs.Locals.{length-lift}
+use Rattle.curve_laws.proofs.Members.{ideal_up, ideal_down}
+use Rattle.ideal_laws.proofs.Members.{terms_of, lift, terms-lift, polys_of, length-lift}
 use Rattle.curve_laws.proofs.Regulars.{regular}
 use Rattle.curve_laws.proofs.Base.{high, Ring, Poly, I, d, Q, member}
-
--- the number as a term
-abbrev at_unit : ℕ → Term
-at_unit c = record { coeff = c; mono = unit }
-
-sum_alike : (p : ℕ) → 0 < p → (x y : ℕ) → Alike p (at_unit ((x + y) % p) ∷ []) (at_unit x ∷ at_unit y ∷ [])
-unfolding weigh
-sum_alike p h x y χ = mod_ring p h (x ∷ y ∷ χ unit ∷ []) _ _ (search mod_quote depth 20) tt
-
-product_alike : (p : ℕ) → 0 < p → (x y : ℕ) → Alike p (at_unit ((x * y) % p) ∷ []) (products (at_unit x ∷ []) (at_unit y ∷ []))
-unfolding weigh
-product_alike p h x y χ = mod_ring p h (x ∷ y ∷ χ unit ∷ []) _ _ (search mod_quote depth 20) tt
-
-pub constant_sum : (p : ℕ) → 0 < p → (x y : ℕ) → constant p ((x + y) % p) ≡ add p (constant p x) (constant p y)
-constant_sum p h x y = normal_ext p (at_unit ((x + y) % p) ∷ []) (at_unit x ∷ at_unit y ∷ []) (sum_alike p h x y)
-    ∙ sym (add_normal_left p (at_unit x ∷ []) (constant p y) ∙ add_normal_right p (at_unit x ∷ []) (at_unit y ∷ []))
-
-pub constant_product : (p : ℕ) → 0 < p → (x y : ℕ) → constant p ((x * y) % p) ≡ mul p (constant p x) (constant p y)
-constant_product p h x y = normal_ext p (at_unit ((x * y) % p) ∷ []) (products (at_unit x ∷ []) (at_unit y ∷ [])) (product_alike p h x y)
-    ∙ sym (mul_normal_left p (at_unit x ∷ []) (constant p y) ∙ mul_normal_right p (at_unit x ∷ []) (at_unit y ∷ []))
 
 module _ (A : CurveData) (c : IsFinite A) where
   pub above : 0 < A.prime

@@ -10,7 +10,7 @@ use Rattle.polys.proofs.Affine.{poly_add, poly_mul, poly_power, positive}
 use Rattle.curve_model.specs.Fraction.{Fraction, IsFraction, EqualsOver, over, sum_of, product_of, denominator_power}
 use Rattle.curve_model.specs.Integral.{Integral}
 use Rattle.curve_model.specs.Laws.{IsFinite, ArePolys, power_of, OnePowerServes, AreClosed, FractionsAreClosed}
-use Rattle.curve_laws.proofs.Members.{lift}
+use Rattle.ideal_laws.proofs.Members.{lift}
 use Rattle.curve_laws.proofs.Facts.{same_member}
 use Rattle.curve_laws.proofs.Base.{high, Poly, d, Q, member, pow-curve, pow_d, equal_up, equal_down}
 use Rattle.curve_laws.proofs.Equations.{integral_up, integral_down}

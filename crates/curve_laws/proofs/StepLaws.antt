@@ -29,7 +29,7 @@ use Rattle.curve_model.specs.Laws.{IsFinite, ArePolys, SumOfParts, total, power_
 use Rattle.curve_model.specs.Rings.{IsFractionRing, IsProduct, no_product, one_more, InRadical, KeepsRadical}
 use Rattle.curve_model.specs.Enlarging.{IsLocalRing, IsBasisModuloA, difference_of}
 use Rattle.curve_model.specs.Steps.{FitIsFinite, IsWithin, AreOneModule, DependsOnFractions, LocalRingIsItsModule, RadicalHolds, RadicalsHoldPoints, EnlargedIsLocalRing, RingsAreLocal, DimensionsDecide, EqualDimensionsAreEqual, IsSumOfTwo, SumsGrow}
-use Rattle.curve_laws.proofs.Members.{lift, terms-lift}
+use Rattle.ideal_laws.proofs.Members.{lift, terms-lift}
 use Rattle.curve_laws.proofs.Facts.{contains_member}
 use Rattle.curve_laws.proofs.Chains.{mul_both}
 use Rattle.curve_laws.proofs.Base.{Ring, Poly, Q, Curve as RingOf, d, member, equal_down}

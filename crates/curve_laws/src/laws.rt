@@ -27,7 +27,7 @@ ghost use Rattle.curve_model.specs.Steps.{
   EqualDimensionsAreEqual,
   SumsGrow,
 };
-ghost use Rattle.curve_model.specs.Quotient.{CoordinatesAreUnique, MembershipIsDecided, PowersHaveDimension};
+ghost use Rattle.curve_model.specs.Quotient.{CoordinatesAreUnique, MembershipIsDecided, BasesCountDimension, PowersHaveDimension};
 
 /// Equal fractions are integral together, and local at a list of polynomials together.
 pub fn equal_fractions_agree()
@@ -83,11 +83,12 @@ pub fn full_rings_have_the_local_fractions()
     ensures { DescentLaw }
 {}
 
-/// Modulo an ideal of finite dimension coordinates by a shortest spanning list are unique, and membership is decided;
-/// modulo I and d^t the dimension is t times that modulo I and d.
+/// Modulo an ideal of finite dimension coordinates by a shortest spanning list are unique, and membership is decided; a list
+/// that spans and is independent counts the dimension; modulo I and d^t it is t times that modulo I and d.
 pub fn finite_quotients_have_coordinates()
     ensures unique { CoordinatesAreUnique }
     ensures decided { MembershipIsDecided }
+    ensures bases { BasesCountDimension }
     ensures powers { PowersHaveDimension }
 {}
 

@@ -5,7 +5,7 @@ use Rattle.std.proofs.lemmas.List.Elements.{All-nil, All-cons, All-head}
 use Rattle.polys.specs.declared.term.Term.{Term}
 use Rattle.polys.specs.Terms.{IsPoly, product}
 use Rattle.polys.proofs.Affine.{poly_none}
-use Rattle.polys.proofs.Unique.{contains_cases, contains_none}
+use Rattle.ideal_laws.proofs.Unique.{contains_cases, contains_none}
 use Rattle.curve_model.specs.Fraction.{over}
 use Rattle.curve_model.specs.Local.{AreMembers, TakesIntoA}
 use Rattle.curve_model.specs.Examples.{term_of, cusp, origin}

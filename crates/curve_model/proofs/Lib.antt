@@ -1,9 +1,12 @@
--- for the crates above: a curve with the denominator 1
+-- for the crates above: a curve with the denominator 1, and the cusp
 pub mod UnitDenominator
--- for the examples alone
-mod Cusp
-mod CuspLocal
-mod Origin
-mod OriginPoint
+pub mod Cusp
+pub mod CuspLocal
+pub mod CuspWeights
+pub mod Origin
+pub mod OriginPoint
+pub mod Tests
+pub mod TwoVariables
+-- for the examples here alone
+mod Axes
 mod Plane
-mod TwoVariables

@@ -1,11 +1,12 @@
 -- The origin is a point of the cusp, of degree 1.
-use Rattle.std.proofs.Common.{◌≡◌, ◌⊎◌, inl, inr, ℕ, ◌+◌, ◌*◌, ◌%◌, ◌<◌, ◌≤◌, zero, suc, List, [], ◌∷◌, ◌++◌, length, replicate, get_or, refl, sym, ap, ◌∙◌, subst, arith}
+use Rattle.std.proofs.Common.{◌≡◌, ◌⊎◌, inl, inr, ℕ, ◌+◌, ◌*◌, ◌%◌, ◌<◌, ◌≤◌, zero, suc, List, [], ◌∷◌, ◌++◌, length, get_or, refl, sym, ap, ◌∙◌, subst, arith}
 use Rattle.std.specs.List.{All, AllPairs, Contains}
 use Rattle.std.proofs.lemmas.List.Elements.{All-nil, All-cons}
 use Rattle.std.specs.declared.cmp.Ordering.TheVariants.{Less, Greater}
 use native.Mathlib.Nat.{mod-lt, mod-eq_of_lt, mul-add-mod_self_left}
 use Rattle.std.proofs.lemmas.Nat.{mul-mod_first, mul-mod_second}
 use Rattle.monomials.specs.Mono.{Monomial, Divides, times, unit, cmp_dp}
+use Rattle.monomials.proofs.Exponents.{zeros_at}
 use Rattle.monomials.proofs.Order.{multiple_not_less, times_comm, times_one, turn_down}
 use Rattle.prime_field.specs.Primes.{IsPrime}
 use Rattle.prime_field.proofs.Table.{characteristics-are_prime}
@@ -17,14 +18,14 @@ use Rattle.polys.proofs.Weights.{weigh, Alike, weigh-append, weigh-normal, norma
 use Rattle.polys.proofs.Units.{canonical_same, weigh-scaled}
 use Rattle.polys.proofs.Affine.{poly_one}
 use Rattle.polys.proofs.Field.{inverse}
-use Rattle.polys.proofs.Ideals.{in_add, in_head, in_more, in_multiple, in_poly}
-use Rattle.polys.proofs.Unique.{contains_head, contains_tail, contains_cases, contains_none}
+use Rattle.ideal_laws.proofs.Ideals.{in_add, in_head, in_more, in_multiple, in_poly}
+use Rattle.ideal_laws.proofs.Unique.{contains_head, contains_tail, contains_cases, contains_none}
 use Rattle.curve_model.specs.Examples.{term_of, origin, OriginIsPoint, OriginHasDegreeOne}
 use Rattle.curve_model.proofs.Origin.{is_zero, at_one, value, Vanishes, vanishes_member}
 use Rattle.curve_model.proofs.Cusp.{poly_of_term}
 use Rattle.curve_model.proofs.TwoVariables.{mono_of, exponents_of, at_one-unit, holds_x, holds_y, origin_polys, weigh-constant, Split, split, member_poly, vanishing_member}
 
-seven_is_prime : IsPrime 7
+pub seven_is_prime : IsPrime 7
 seven_is_prime = characteristics-are_prime 7 refl
 
 -- ---- leads of members
@@ -91,11 +92,6 @@ minimal_y = (lead_y, λ w l d. go (lead_exponents w l) d)
         e ∙ (λ k. mono_of (i0 k) (j1 k))
 
 -- ---- the reduced basis
-
-zeros_at : (n k : ℕ) → get_or (replicate {A = ℕ} n 0) k 0 ≡ 0
-zeros_at zero k = refl
-zeros_at (suc n) zero = refl
-zeros_at (suc n) (suc k) = zeros_at n k
 
 x_divides : (i j : ℕ) → Divides (mono_of 1 0) (mono_of (suc i) j)
 x_divides i j = record { same = refl; none_greater = go }

@@ -7,7 +7,7 @@ use Rattle.polys.specs.Ideal.{InIdeal}
 use Rattle.polys.proofs.Sums.{mul_assoc, mul_comm}
 use Rattle.polys.proofs.Units.{mul_one, sub_self, add_none}
 use Rattle.polys.proofs.Affine.{poly_one, poly_mul, poly_power, sevens_of}
-use Rattle.polys.proofs.Ideals.{in_none, in_mul}
+use Rattle.ideal_laws.proofs.Ideals.{in_none, in_mul}
 use Rattle.curve_model.specs.Examples.{term_of, PlaneHasNoPoint, PlaneHasNoFractions, OnePointHasDimensionZero}
 use Rattle.curve_model.proofs.Cusp.{poly_of_term}
 

@@ -1,5 +1,5 @@
 -- Polynomials in x and y over F_7, split into a member of the ideal of y, x and a constant.
-use Rattle.std.proofs.Common.{◌≡◌, ℕ, ◌+◌, ◌*◌, ◌%◌, zero, suc, List, [], ◌∷◌, ◌++◌, length, replicate, refl, sym, ap, ◌∙◌, subst, arith}
+use Rattle.std.proofs.Common.{◌≡◌, ℕ, ◌+◌, ◌*◌, ◌%◌, zero, suc, List, [], ◌∷◌, ◌++◌, length, refl, sym, ap, ◌∙◌, subst, arith}
 use Rattle.std.specs.List.{All}
 use Rattle.std.proofs.lemmas.List.Elements.{All-nil, All-cons}
 use Rattle.std.proofs.lemmas.Nat.{mul-mod_first}
@@ -10,8 +10,8 @@ use Rattle.polys.specs.Ideal.{InIdeal}
 use Rattle.polys.proofs.Weights.{weigh, Alike, weigh-append, weigh-normal, normal_ext, mod_plus}
 use Rattle.polys.proofs.Sums.{mul_normal_left}
 use Rattle.polys.proofs.Units.{canonical_same}
-use Rattle.polys.proofs.Affine.{poly_normal}
-use Rattle.polys.proofs.Ideals.{in_none, in_add, in_mul, in_head, in_more, in_poly}
+use Rattle.polys.proofs.Affine.{poly_normal, zeros}
+use Rattle.ideal_laws.proofs.Ideals.{in_none, in_add, in_mul, in_head, in_more, in_poly}
 use Rattle.curve_model.specs.Examples.{term_of, origin}
 use Rattle.curve_model.proofs.Origin.{is_zero, at_one, value}
 use Rattle.curve_model.proofs.Cusp.{poly_of_term}
@@ -20,12 +20,6 @@ use Rattle.curve_model.proofs.Cusp.{poly_of_term}
 
 abbrev pub mono_of : ℕ → ℕ → Monomial
 mono_of i j = (term_of 1 i j).mono
-
-zeros : (n : ℕ) (a : List ℕ) → length a ≡ n → OnlyFirst zero a → a ≡ replicate n 0
-zeros zero [] e h = refl
-zeros zero (x ∷ a) e h = absurd (omega arith)
-zeros (suc n) [] e h = absurd (omega arith)
-zeros (suc n) (x ∷ a) e h = λ i. h.0 i ∷ zeros n a (omega arith) h.1 i
 
 pub exponents_of : (m : Monomial) → IsAffine 2 m → (i : ℕ) × (j : ℕ) × (m ≡ mono_of i j)
 exponents_of m h = go m.exponents m.component h.seven h.first h.plain

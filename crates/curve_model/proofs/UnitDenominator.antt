@@ -11,8 +11,8 @@ use Rattle.polys.specs.Reduced.{Reduced, leads, lower_monos, IsLead, IsMinimalLe
 use Rattle.polys.proofs.Sums.{mul_comm}
 use Rattle.polys.proofs.Units.{mul_one, sub_self, add_none}
 use Rattle.polys.proofs.Affine.{positive, poly_one, poly_multiple, sevens_of}
-use Rattle.polys.proofs.Ideals.{in_none, in_mul, in_head, in_poly}
-use Rattle.polys.proofs.Unique.{contains_head, contains_cases, contains_none}
+use Rattle.ideal_laws.proofs.Ideals.{in_none, in_mul, in_head, in_poly}
+use Rattle.ideal_laws.proofs.Unique.{contains_head, contains_cases, contains_none}
 use Rattle.curve_model.specs.Fraction.{Fraction, IsFraction, InA, over}
 use Rattle.curve_model.specs.Integral.{Integral, lower_sum, monic_sum}
 use Rattle.curve_model.specs.Local.{LocalAt, AreMembers, TakesIntoA}

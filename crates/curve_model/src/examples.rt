@@ -1,6 +1,6 @@
 // The definitions tried on small curves, each the contract of a function that does nothing.
 ghost use Rattle.curve_model.specs.Unit.{UnitsCloseNothing};
-ghost use Rattle.curve_model.specs.Examples.{ProductIsIntegral, InverseIsNotIntegral, ProductIsLocal, OriginIsPoint, OriginHasDegreeOne, PlaneHasNoPoint, PlaneHasNoFractions, OnePointHasDimensionZero};
+ghost use Rattle.curve_model.specs.Examples.{ProductIsIntegral, InverseIsNotIntegral, ProductIsLocal, ProductIsNotWhole, CuspIsRegular, AxesAreNotRegular, OriginIsPoint, OriginHasDegreeOne, PlaneHasNoPoint, PlaneHasNoFractions, OnePointHasDimensionZero};
 
 /// On the cusp x^3 = y^2 over F_7 with d = x^2 the fraction xy/d is integral, since its square is x, and 1/d is not.
 pub fn cusp_has_integral_fractions()
@@ -8,9 +8,16 @@ pub fn cusp_has_integral_fractions()
     ensures inverse { InverseIsNotIntegral }
 {}
 
-/// The fraction xy/d is local at the origin of the cusp: x and y take it into A.
+/// The fraction xy/d is local at the origin of the cusp, since x and y take it into A; it is not in A.
 pub fn cusp_has_a_local_fraction()
-    ensures { ProductIsLocal }
+    ensures local { ProductIsLocal }
+    ensures new { ProductIsNotWhole }
+{}
+
+/// The denominator x^2 is regular on the cusp, and x is not on the two axes xy = 0.
+pub fn denominators_are_regular_or_not()
+    ensures cusp { CuspIsRegular }
+    ensures axes { AxesAreNotRegular }
 {}
 
 /// The origin is a point of the cusp, of degree 1.

@@ -9,10 +9,10 @@ use Rattle.polys.specs.Terms.{EachMono, IsPoly, IsMonic, add, sub, mul, multiple
 use Rattle.polys.specs.Ideal.{InIdeal, combination, Regular}
 use Rattle.polys.proofs.Affine.{constant, poly_constant, mul_constant, poly_mul, poly_add, poly_none, sevens_of}
 use Rattle.polys.proofs.Each.{every_more}
-use Rattle.polys.proofs.Ideals.{in_none, in_add, in_mul}
+use Rattle.ideal_laws.proofs.Ideals.{in_none, in_add, in_mul}
 use Rattle.polys.proofs.Sums.{mul_assoc, mul_comm, mul-add, mul_none}
 use Rattle.polys.proofs.Units.{canonical_same}
-use Rattle.polys.proofs.Unique.{unique_law}
+use Rattle.ideal_laws.proofs.Unique.{unique_law}
 use Rattle.graded_modules.specs.Vector.{IsGradedVector, IsFactor, IsGenerator, lead_mono}
 use Rattle.graded_modules.specs.Module.{InModule, IsLeadMultiple}
 use Rattle.graded_modules.proofs.Members as members
@@ -24,7 +24,7 @@ use Rattle.homogenising.proofs.Images.{image, sent}
 use Rattle.homogenising.proofs.Monomials.{lower, lower_divides, lower_lift, graded_lift}
 use Rattle.homogenising.proofs.Stays.{factor_of, lower_product, lower_member, lower_polys, lift_factor, lift_product, lift_combination, contains_map, lead_seven}
 use Rattle.homogenising.proofs.Spanning.{IsIdeal, held, spans}
-use Rattle.polys.proofs.Differences.{add_sub}
+use Rattle.ideal_laws.proofs.Differences.{add_sub}
 use Rattle.denominator_module.specs.Module.{module_of, first, second, colon_members, InColon}
 use Rattle.denominator_module.specs.Laws.{AreGiven, IsModuleBasis, Generates, RegularByColon}
 use Rattle.denominator_module.proofs.Pairs.{pos, two, homogeneous_d, homogeneous_gs, pairs, heightened, embedded, embedded_inside}

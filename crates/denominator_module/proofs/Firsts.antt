@@ -13,9 +13,9 @@ use Rattle.polys.specs.Terms.{EachMono, IsCanonical, IsPoly, IsMonic, degree_of}
 use Rattle.polys.specs.Poly.{IsPlain}
 use Rattle.polys.specs.Ideal.{InIdeal}
 use Rattle.polys.proofs.Each.{every_more, every_zip}
-use Rattle.polys.proofs.Ideals.{in_larger}
+use Rattle.ideal_laws.proofs.Ideals.{in_larger}
 use Rattle.polys.proofs.Leads.{every_low}
-use Rattle.polys.proofs.Unique.{contains_head, contains_tail, contains_cases, contains_none}
+use Rattle.ideal_laws.proofs.Unique.{contains_head, contains_tail, contains_cases, contains_none}
 use Rattle.polys.proofs.Weights.{canon}
 use Rattle.graded_modules.specs.Vector.{IsGraded, IsGradedVector, IsGenerator, HasDegree, degree_at, lead_mono}
 use Rattle.graded_modules.specs.Module.{InModule, IsLeadMultiple}

@@ -16,10 +16,10 @@ use Rattle.polys.specs.Ideal.{InIdeal}
 use Rattle.polys.proofs.Affine.{poly_mul}
 use Rattle.polys.proofs.Degrees.{AtMost, degree_le}
 use Rattle.polys.proofs.Each.{every_more, every_zip, every_normal, every_multiple}
-use Rattle.polys.proofs.Ideals.{in_mul, in_sub, in_poly}
+use Rattle.ideal_laws.proofs.Ideals.{in_mul, in_sub, in_poly}
 use Rattle.polys.proofs.Sums.{add_comm}
 use Rattle.polys.proofs.Units.{canonical_same, add_none}
-use Rattle.polys.proofs.Unique.{contains_head, contains_tail, contains_cases, contains_none}
+use Rattle.ideal_laws.proofs.Unique.{contains_head, contains_tail, contains_cases, contains_none}
 use Rattle.polys.proofs.Weights.{is_canonical, normal_canon}
 use Rattle.graded_modules.specs.Vector.{IsGraded, IsGradedVector, HasDegree, degree_at, lead_mono}
 use Rattle.graded_modules.specs.Module.{InModule, IsLead, IsLeadMultiple}
@@ -33,7 +33,7 @@ use Rattle.homogenising.proofs.Monomials.{lower, degree_lower}
 use Rattle.homogenising.proofs.Stays.{factor_of, lower_factor, lower_member, lower_product, lift_factor, lift_product}
 use Rattle.homogenising.proofs.Descent.{Step, descent}
 use Rattle.homogenising.proofs.Spanning.{Low, cancel}
-use Rattle.polys.proofs.Differences.{sub_add, add_sub, less_difference}
+use Rattle.ideal_laws.proofs.Differences.{sub_add, add_sub, less_difference}
 use Rattle.denominator_module.specs.Module.{module_of, first, second, quotient_of}
 use Rattle.denominator_module.specs.Laws.{AreGiven, IsModuleBasis, LiftLaws}
 use Rattle.denominator_module.proofs.Components.{IsLow, lowered, every_second, first_plain, second_plain, canonical_first}

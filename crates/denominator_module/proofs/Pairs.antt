@@ -25,7 +25,7 @@ use Rattle.homogenising.specs.Laws.{IsHomogeneousPoly}
 use Rattle.homogenising.proofs.Lifted.{homogenised_law}
 use Rattle.homogenising.proofs.Stays.{module_cons}
 use Rattle.homogenising.proofs.Images.{image, canonical_image}
-use Rattle.polys.proofs.Differences.{add_sub}
+use Rattle.ideal_laws.proofs.Differences.{add_sub}
 use Rattle.denominator_module.specs.Module.{with_unit, module_of, first, second}
 use Rattle.denominator_module.specs.Laws.{AreGiven}
 use Rattle.denominator_module.proofs.Components.{IsLow, cmp_lowered, first-append, first-add, first-mul, first_plain, second-append, second-add, second-mul, second_plain}

@@ -10,7 +10,7 @@ use Rattle.polys.specs.Terms.{EachMono, IsCanonical, IsMonic}
 use Rattle.polys.specs.Poly.{IsPlain}
 use Rattle.polys.proofs.Each.{every_more, every_zip}
 use Rattle.polys.proofs.Leads.{every_low}
-use Rattle.polys.proofs.Unique.{contains_head, contains_tail, contains_cases, contains_none}
+use Rattle.ideal_laws.proofs.Unique.{contains_head, contains_tail, contains_cases, contains_none}
 use Rattle.polys.proofs.Weights.{canon}
 use Rattle.graded_modules.specs.Vector.{IsGraded, IsGenerator, degree_at, lead_mono}
 use Rattle.homogenising.specs.Homogenised.{dehomogenised, all_dehomogenised}

@@ -11,7 +11,7 @@ use Rattle.comm_ring.proofs.Modules as Modules
 use Rattle.comm_ring.proofs.Modules.{Module}
 use Rattle.comm_ring.proofs.Quotients as Quotients
 use Rattle.comm_ring.proofs.Residues.{residues}
-use Rattle.comm_ring.proofs.Rows.{row_module}
+use Rattle.comm_ring.proofs.Rows.{row_module, row-entry}
 use Rattle.comm_ring.proofs.Sums.{sum_below_ext, sum-zero}
 use Rattle.lane_rows.specs.Rows.{IsFirstNonzero}
 use Rattle.row_space.specs.Echelon.{IsRow, IsEchelon}
@@ -19,7 +19,7 @@ use Rattle.row_space.specs.Subspace.{Subspace, IsZeroAtPivots}
 use Rattle.finite_algebra.specs.Elements.{unit_row}
 use Rattle.finite_algebra.specs.Projections.{IsClass}
 use Rattle.finite_algebra.proofs.Totals.{IsLinear}
-use Rattle.finite_algebra.proofs.Units.{row-entry, joined-entry, length-unit_row, unit-own, unit-other, along, along_linear, along-unit, agree}
+use Rattle.finite_algebra.proofs.Units.{joined-entry, length-unit_row, unit-own, unit-other, along, along_linear, along-unit, agree}
 use Rattle.finite_algebra.proofs.Products.{row_fits, joined_fits}
 
 -- the number stands in the list, or does not

@@ -11,9 +11,10 @@ use Rattle.row_space.specs.Echelon.{IsRow}
 use Rattle.finite_algebra.specs.Elements.{FiniteAlgebra, IsAlgebra, elements, total, times, unit_row}
 use Rattle.finite_algebra.proofs.BasisLaws.{laws}
 use Rattle.finite_algebra.proofs.Totals.{of_path}
-use Rattle.finite_algebra.proofs.Units.{row-entry, joined-entry}
+use Rattle.finite_algebra.proofs.Units.{joined-entry}
 use Rattle.finite_algebra.proofs.Products.{module_of, times_cong, times-units, times-right_unit, times-left_unit, times_fits, same}
 use Rattle.finite_algebra.proofs.Classes.{unit_fits}
+use Rattle.comm_ring.proofs.Rows.{row-entry}
 
 both : (a b : Bool) → (a && b) ≡ true → (a ≡ true) × (b ≡ true)
 both true true e = (refl, refl)
@@ -21,7 +22,7 @@ both true false e = absurd (false≢true e)
 both false b e = absurd (false≢true e)
 
 -- the test holds at each number below n
-holds_below : (ℕ → Bool) → ℕ → Bool
+unfoldable pub holds_below : (ℕ → Bool) → ℕ → Bool
 holds_below p zero = true
 holds_below p (suc n) = holds_below p n && p n
 
@@ -34,7 +35,7 @@ below_holds p (suc n) e k h = ⊎_elim
     (cases_lt k n)
 
 -- the rows are equal
-same_row : List ℕ → List ℕ → Bool
+unfoldable pub same_row : List ℕ → List ℕ → Bool
 same_row [] [] = true
 same_row [] (y ∷ ys) = false
 same_row (x ∷ xs) [] = false
@@ -48,7 +49,7 @@ row_same (x ∷ xs) [] e = absurd (false≢true e)
 row_same (x ∷ xs) (y ∷ ys) e = let s = both (eqb x y) (same_row xs ys) e in ap₂ ◌∷◌ (eqb-true x y s.0) (row_same xs ys s.1)
 
 -- the row has n residues
-fits : ℕ → ℕ → List ℕ → Bool
+unfoldable pub fits : ℕ → ℕ → List ℕ → Bool
 fits p n x = eqb (length x) n && holds_below (λ t. ltb (get_or x t 0) p) n
 
 row_fits : (p n : ℕ) (x : List ℕ) → fits p n x ≡ true → IsRow p n x
@@ -59,29 +60,29 @@ row_fits p n x e =
     (long, All-from_get_or (λ c. c < p) x 0 (λ t h. ltb-true (get_or x t 0) p (below_holds (λ t. ltb (get_or x t 0) p) n s.1 t (omega arith))))
 
 module _ (A : FiniteAlgebra) where
-  abbrev n : ℕ
+  abbrev pub n : ℕ
   n = A.dimension
 
-  abbrev e : ℕ → List ℕ
+  abbrev pub e : ℕ → List ℕ
   e k = unit_row A.dimension k
 
-  abbrev P : ℕ → ℕ → List ℕ
+  abbrev pub P : ℕ → ℕ → List ℕ
   P i j = get_or A.products (i * A.dimension + j) []
 
   -- the entry t of the sum of the rows r l, each times the entry l of x
-  abbrev at : List ℕ → (ℕ → List ℕ) → ℕ → ℕ
+  abbrev pub at : List ℕ → (ℕ → List ℕ) → ℕ → ℕ
   at x r t = sum (residue_ops A.prime) (λ l. (get_or x l 0 * get_or (r l) t 0) % A.prime) (below A.dimension)
 
-  shape : Bool
+  unfoldable pub shape : Bool
   shape = eqb (length A.products) (n * n) && (holds_below (λ q. fits A.prime n (get_or A.products q [])) (n * n) && fits A.prime n A.one)
 
-  neutral : Bool
+  unfoldable pub neutral : Bool
   neutral = holds_below (λ k. holds_below (λ t. eqb (at A.one (λ l. P l k) t) (get_or (e k) t 0)) n) n
 
-  commutative : Bool
+  unfoldable pub commutative : Bool
   commutative = holds_below (λ i. holds_below (λ j. same_row (P i j) (P j i)) n) n
 
-  associative : Bool
+  unfoldable pub associative : Bool
   associative = holds_below (λ i. holds_below (λ j. holds_below (λ k. holds_below (λ t. eqb (at (P i j) (λ l. P l k) t) (at (P j k) (λ l. P i l) t)) n) n) n) n
 
   module _ (positive : 0 < A.prime) where
@@ -119,7 +120,7 @@ module _ (A : FiniteAlgebra) where
     unit_is_row : 2 ≤ A.prime → (k : ℕ) → IsRow A.prime n (e k)
     unit_is_row two k = unit_fits A.prime n k two
 
-    has_laws : 2 ≤ A.prime → shape ≡ true → neutral ≡ true → commutative ≡ true → associative ≡ true → IsAlgebra A
+    pub has_laws : 2 ≤ A.prime → shape ≡ true → neutral ≡ true → commutative ≡ true → associative ≡ true → IsAlgebra A
     unfolding shape
     has_laws two s u c a =
         let first = both (eqb (length A.products) (n * n)) _ s in

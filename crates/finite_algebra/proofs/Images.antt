@@ -8,14 +8,14 @@ use Rattle.comm_ring.specs.Rows.{rows}
 use Rattle.comm_ring.proofs.Modules.{Module}
 use Rattle.comm_ring.proofs.Quotients as Quotients
 use Rattle.comm_ring.proofs.Residues.{residues}
-use Rattle.comm_ring.proofs.Rows.{row_module}
+use Rattle.comm_ring.proofs.Rows.{row_module, row-entry}
 use Rattle.comm_ring.proofs.Sums.{sum_below_ext}
 use Rattle.row_space.specs.Echelon.{IsEchelon, entries_at}
 use Rattle.row_space.specs.Subspace.{product}
 use Rattle.finite_algebra.specs.Elements.{unit_row}
 use Rattle.finite_algebra.specs.Projections.{IsClass, AreFree}
 use Rattle.finite_algebra.proofs.Totals.{IsLinear, linear_same, of_path, combination-total}
-use Rattle.finite_algebra.proofs.Units.{row-entry, joined-entry, unit-own, unit-other, along, along_linear, along-unit}
+use Rattle.finite_algebra.proofs.Units.{joined-entry, unit-own, unit-other, along, along_linear, along-unit}
 use Rattle.finite_algebra.proofs.Counting.{count}
 use Rattle.finite_algebra.proofs.Classes.{space, N, members, Q, pivot_or_own, zero_there, zero_member, normal, normal_class, normal_zero}
 

@@ -8,11 +8,11 @@ use Rattle.comm_ring.specs.Sums.{joined, below}
 use Rattle.comm_ring.specs.Rows.{rows}
 use Rattle.comm_ring.proofs.Modules.{Module}
 use Rattle.comm_ring.proofs.Residues.{residues}
-use Rattle.comm_ring.proofs.Rows.{row_module, equal_rows}
+use Rattle.comm_ring.proofs.Rows.{row_module, equal_rows, row-entry}
 use Rattle.row_space.specs.Echelon.{IsRow}
 use Rattle.finite_algebra.specs.Elements.{FiniteAlgebra, IsElement, IsAlgebra, IsBilinear, elements, total, times, ring_of, unit_row}
 use Rattle.finite_algebra.proofs.Totals.{IsLinear, total_ext, total-add, total-scale}
-use Rattle.finite_algebra.proofs.Units.{row-entry, along, along_linear, along-unit}
+use Rattle.finite_algebra.proofs.Units.{along, along_linear, along-unit}
 
 -- a row of residues by its entries
 pub row_fits : (p width : ℕ) (f : ℕ → ℕ) → ((t : ℕ) → t < width → f t < p) → IsRow p width (map f (range_with_len 0 width))

@@ -9,16 +9,12 @@ use Rattle.comm_ring.specs.Rows.{rows}
 use Rattle.comm_ring.proofs.Residues.{residues, mod_ring, mod_quote}
 use Rattle.row_space.specs.Echelon.{IsRow}
 use Rattle.row_space.specs.Sums.{weighted}
+use Rattle.row_space.proofs.Members.{combination-entry}
+use Rattle.comm_ring.proofs.Rows.{row-entry}
 use Rattle.row_space.specs.Subspace.{product}
 use Rattle.finite_algebra.specs.Elements.{FiniteAlgebra, elements, total}
 use Rattle.finite_algebra.proofs.Totals.{of_path, total_ext, total-zero, total-suc, combination-total}
-use Rattle.finite_algebra.proofs.Units.{row-entry}
 use Rattle.finite_algebra.proofs.Products.{row_fits, summed, module_of, basis_product}
-use Rattle.finite_algebra.proofs.Weights.{combination-entry}
-
--- the items of a Vec that was written as a whole
-pub written_whole : {X : Type 0} (n : ℕ) (xs ys : List X) → n ≡ length xs → take n (xs ++ drop (length xs) ys) ≡ xs
-written_whole n xs ys h = ap (λ m. take m (xs ++ drop (length xs) ys)) h ∙ take-append_seam xs (drop (length xs) ys)
 
 -- a row of a range of rows
 pub range-row : (us : List (List ℕ)) (from n k : ℕ) (d : List ℕ) → k < n → get_or (take (from + n - from) (drop from us)) k d ≡ get_or us (from + k) d

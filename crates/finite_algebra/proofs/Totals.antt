@@ -5,18 +5,12 @@ use Rattle.std.specs.List.{range_with_len}
 use Rattle.comm_ring.specs.Ring.{CommRing}
 use Rattle.comm_ring.specs.Sums.{joined, below}
 use Rattle.comm_ring.specs.Modules.{ModuleOps, IsSubmodule, combine, combination}
+use Rattle.comm_ring.proofs.Sums.{below-suc}
 use Rattle.comm_ring.proofs.Joined as Joined
 use Rattle.comm_ring.proofs.Joined.{CommMonoid}
 use Rattle.comm_ring.proofs.Modules as Modules
 use Rattle.comm_ring.proofs.Modules.{Module}
 use Rattle.finite_algebra.specs.Elements.{total}
-
-range-last : (a n : ℕ) → range_with_len a (suc n) ≡ range_with_len a n ++ ((a + n) ∷ [])
-range-last a zero = let e : a ≡ a + 0 = omega arith in ap (λ k. k ∷ []) e
-range-last a (suc n) = ap (λ l. a ∷ l) (range-last (a + 1) n ∙ (let e : (a + 1) + n ≡ a + suc n = omega arith in ap (λ k. range_with_len (a + 1) n ++ (k ∷ [])) e))
-
-below-suc : (n : ℕ) → below (suc n) ≡ below n ++ (n ∷ [])
-below-suc n = range-last 0 n ∙ (let e : 0 + n ≡ n = omega arith in ap (λ k. below n ++ (k ∷ [])) e)
 
 -- f keeps equality, sums and multiples
 pub record IsLinear {S : Type 0} (V W : ModuleOps S) (f : V.carrier → W.carrier) : Type 0 where

@@ -1,7 +1,6 @@
 -- Rows as sums of multiples of unit rows; linear maps that agree on unit rows agree everywhere.
 use Rattle.std.proofs.Common.{◌≡◌, ◌≢◌, ℕ, ◌+◌, ◌*◌, ◌%◌, ◌<◌, List, [], ◌∷◌, length, map, get_or, replicate, refl, sym, ap, ◌∙◌, arith, get_or-set_same, get_or-set_other, length-set}
 use Rattle.std.proofs.lemmas.List.{get_or-replicate, length-replicate}
-use Rattle.std.proofs.lemmas.List.FromFn.{get_or-map-range_with_len}
 use Rattle.std.proofs.Math.Nat.{mod-mod}
 use Rattle.std.specs.List.{range_with_len}
 use Rattle.comm_ring.specs.Sums.{joined, sum, below}
@@ -10,14 +9,10 @@ use Rattle.comm_ring.specs.Rows.{rows}
 use Rattle.comm_ring.proofs.Modules as Modules
 use Rattle.comm_ring.proofs.Modules.{Module}
 use Rattle.comm_ring.proofs.Residues.{residues}
-use Rattle.comm_ring.proofs.Rows.{row_module}
+use Rattle.comm_ring.proofs.Rows.{row-entry, row_module}
 use Rattle.comm_ring.proofs.Sums.{sum_below-single}
 use Rattle.finite_algebra.specs.Elements.{total, unit_row}
 use Rattle.finite_algebra.proofs.Totals.{IsLinear, of_path, total_ext, total-add, total-scale, total-single, linear-total}
-
--- the entry of a row that is given by its entries
-pub row-entry : (width : ℕ) (f : ℕ → ℕ) (t : ℕ) → t < width → get_or (map f (range_with_len 0 width)) t 0 ≡ f t
-row-entry width f t h = get_or-map-range_with_len f 0 width t t 0 h (omega arith)
 
 -- the entry of a sum of rows is the sum of their entries
 pub joined-entry : (p width : ℕ) (f : ℕ → List ℕ) (xs : List ℕ) (t : ℕ) → t < width

@@ -68,6 +68,14 @@ impl Algebra {
         self.dimension
     }
 
+    /// The dimension as a smaller number: there is no room for the products of 2^32 basis elements.
+    pub fn dimension_u32(&self) -> u32
+        ensures { result ≡ self.now.dimension }
+    {
+        let _count = self.products.len();
+        self.dimension as u32
+    }
+
     /// The one, as a row of n residues.
     pub fn one(&self) -> &[u32]
         ensures value { result.now ≡ self.now.one }

@@ -10,6 +10,7 @@ mod multiples;
 mod projecting;
 
 pub use algebra::{Algebra, basis_laws_suffice};
+pub use projecting::image;
 
 #[cfg(test)]
 mod tests;

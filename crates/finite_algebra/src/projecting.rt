@@ -88,8 +88,8 @@ pub(crate) fn at_all_places(
     Ok(made)
 }
 
-// `v` times the matrix, whose rows have `columns` entries.
-pub(crate) fn image(
+/// `v` times the matrix, whose rows have `columns` entries.
+pub fn image(
     alloc: Global,
     prime: Prime,
     matrix: &[List<u32>],

@@ -7,7 +7,7 @@ use Rattle.prime_field.specs.Primes.{IsPrime}
 use Rattle.polys.specs.declared.term.Term.{Term}
 use Rattle.polys.specs.Terms.{IsMonic}
 use Rattle.polys.proofs.Each.{every_more}
-use Rattle.polys.proofs.Unique.{contains_cases, contains_none}
+use Rattle.ideal_laws.proofs.Unique.{contains_cases, contains_none}
 use Rattle.graded_modules.specs.Vector.{IsGraded, IsGradedVector, IsGenerator, degree_at, lead_mono}
 use Rattle.graded_modules.specs.Module.{InModule, IsLeadUpTo, IsLeast, IsLeadMultiple}
 use Rattle.graded_modules.specs.Deep.{HasHighPair, IsDeep}

@@ -20,8 +20,8 @@ use Rattle.graded_modules.specs.Module.{IsLeadMultiple}
 use Rattle.graded_modules.specs.SVector.{cofactor, raised, lead_lcm, Multiple, total, top, IsBelow, IsSumBelow, IsSettled}
 use Rattle.graded_modules.proofs.Graded.{graded_times, lead_graded, each_seven}
 use Rattle.graded_modules.proofs.Cofactors.{same_shape, cofactor_times, divides_by, divides_degree}
-use Rattle.polys.proofs.Multiples.{multiple_term, mul_two}
-use Rattle.polys.proofs.Differences.{sub_times}
+use Rattle.ideal_laws.proofs.Multiples.{multiple_term, mul_two}
+use Rattle.ideal_laws.proofs.Differences.{sub_times}
 use Rattle.graded_modules.proofs.Multiples.{normal-total, total-append, below_multiple}
 use Rattle.graded_modules.proofs.Tops.{Lower, tail_below, product_is, product_below, lead_of_sum}
 use Rattle.graded_modules.proofs.SVectors.{lifted}

@@ -5,7 +5,7 @@ use Rattle.std.proofs.lemmas.List.Elements.{All-contains}
 use Rattle.polys.specs.Poly.{IsPlain}
 use Rattle.polys.specs.declared.term.Term.{Term}
 use Rattle.polys.specs.Terms.{EachMono, normal, add, sub, multiple, mul}
-use Rattle.polys.proofs.Combinations.{IsCombined, combined_none, combined_add, combined_mul, combined_multiple, combined_more, combined_head, combined_member, combined_holds}
+use Rattle.ideal_laws.proofs.Combinations.{IsCombined, combined_none, combined_add, combined_mul, combined_multiple, combined_more, combined_head, combined_member, combined_holds}
 use Rattle.polys.proofs.Sums.{mul_comm, mul_normal_right}
 use Rattle.graded_modules.specs.Vector.{IsGraded, IsGradedVector, IsFactor}
 use Rattle.graded_modules.specs.Module.{InModule}

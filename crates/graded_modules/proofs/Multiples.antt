@@ -14,7 +14,7 @@ use Rattle.graded_modules.specs.Vector.{IsGraded, IsGenerator, degree_at, lead_m
 use Rattle.graded_modules.specs.SVector.{Multiple, total, top, IsBelow, IsSumBelow}
 use Rattle.graded_modules.proofs.Graded.{graded_times, degree_times, lead_graded}
 use Rattle.graded_modules.proofs.Cofactors.{same_shape}
-use Rattle.polys.proofs.Multiples.{mul_terms, mul_residue, multiple-add, multiple_term}
+use Rattle.ideal_laws.proofs.Multiples.{mul_terms, mul_residue, multiple-add, multiple_term}
 
 pub normal-total : (p : ℕ) (ss : List Multiple) → normal p (total p ss) ≡ total p ss
 normal-total p [] = refl

@@ -12,7 +12,7 @@ use Rattle.polys.proofs.Sums.{add_comm}
 use Rattle.polys.proofs.Units.{canonical_same}
 use Rattle.polys.proofs.Each.{every_more, every_add, every_multiple}
 use Rattle.polys.proofs.Products.{times_term}
-use Rattle.polys.proofs.Unique.{contains_head, contains_tail, contains_cases, contains_none}
+use Rattle.ideal_laws.proofs.Unique.{contains_head, contains_tail, contains_cases, contains_none}
 use Rattle.graded_modules.specs.Vector.{IsGraded, IsGradedVector, IsGenerator, HasDegree, degree_at, lead_mono}
 use Rattle.graded_modules.specs.Module.{InModule, IsLead, IsLeast, IsLeadMultiple}
 use Rattle.graded_modules.specs.SVector.{cofactor}
@@ -22,7 +22,7 @@ use Rattle.graded_modules.proofs.Graded.{each_seven, lead_graded}
 use Rattle.graded_modules.proofs.Members.{in_none, in_add, in_sub, in_product, in_generator, in_vector, in_larger}
 use Rattle.graded_modules.proofs.Cofactors.{same_shape, graded_cofactor, times_cofactor}
 use Rattle.monomials.proofs.Factors.{divides_trans, divides_both}
-use Rattle.polys.proofs.Differences.{from_sub, to_sub, sub_cons, sub_none}
+use Rattle.ideal_laws.proofs.Differences.{from_sub, to_sub, sub_cons, sub_none}
 use Rattle.graded_modules.proofs.Tops.{Lower, tail_below, product_is, product_below}
 use Rattle.graded_modules.proofs.SVectors.{product_degree}
 use Rattle.prime_field.proofs.Table.{positive_of_prime, above_one}

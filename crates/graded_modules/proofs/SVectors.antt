@@ -19,8 +19,8 @@ use Rattle.graded_modules.specs.Laws.{ArePaired, SVectorLaws}
 use Rattle.graded_modules.proofs.Graded.{degree_times, lead_graded, each_seven, vector_mul, vector_sub}
 use Rattle.graded_modules.proofs.Members.{in_product, in_sub}
 use Rattle.graded_modules.proofs.Cofactors.{same_shape, cofactor_steps, graded_cofactor, graded_lcm, times_cofactor, lcm_left, lcm_right, lcm_comm}
-use Rattle.polys.proofs.Multiples.{mul_terms}
-use Rattle.polys.proofs.Differences.{sub_cons, sub_chain, sub_swap, sub_by}
+use Rattle.ideal_laws.proofs.Multiples.{mul_terms}
+use Rattle.ideal_laws.proofs.Differences.{sub_cons, sub_chain, sub_swap, sub_by}
 use Rattle.graded_modules.proofs.Multiples.{below_none, below_add, below_multiple, below_mul}
 use Rattle.graded_modules.proofs.Tops.{Lower, product_is, product_below}
 

@@ -19,8 +19,8 @@ use Rattle.graded_modules.specs.SVector.{cofactor, raised, lead_lcm, s_vector, M
 use Rattle.graded_modules.specs.Laws.{ArePaired, SettledLaws}
 use Rattle.graded_modules.proofs.Graded.{graded_times, graded_unit, degree_times, lead_graded, each_seven}
 use Rattle.graded_modules.proofs.Cofactors.{cofactor_times}
-use Rattle.polys.proofs.Multiples.{mul_number, multiple_multiple, multiple_residue, multiple_one, multiple_zero}
-use Rattle.polys.proofs.Differences.{from_sub, to_sub, sub_none}
+use Rattle.ideal_laws.proofs.Multiples.{mul_number, multiple_multiple, multiple_residue, multiple_one, multiple_zero}
+use Rattle.ideal_laws.proofs.Differences.{from_sub, to_sub, sub_none}
 use Rattle.graded_modules.proofs.Multiples.{below_more, below_add, below_multiple}
 use Rattle.graded_modules.proofs.Tops.{Lower, tail_below}
 use Rattle.graded_modules.proofs.SVectors.{swap_settled, chain_settled, same_degrees}

@@ -38,7 +38,8 @@ IsHomogeneous shift f = (e : ℕ) × HasDegree shift e f
 abbrev pub IsUpTo : ℕ → ℕ → List Term → Type 0
 IsUpTo shift e f = EachMono (λ m. degree_at shift m ≤ e) f
 
--- the monomial of the lead; 1 stands for that of 0, which has none
+-- the monomial of the lead; 1 stands for that of 0, which has none: so over a list with a member 0 each monomial of
+-- component 0 is a lead multiple, and laws of leads ask for monic members
 abbrev pub lead_mono : List Term → Monomial
 lead_mono [] = unit
 lead_mono (t ∷ f) = t.mono

@@ -11,7 +11,7 @@ use Rattle.monomials.specs.Mono.{Monomial, Divides}
 use Rattle.polys.specs.declared.term.Term.{Term}
 use Rattle.polys.specs.Terms.{IsMonic}
 use Rattle.polys.specs.Reduced.{leads}
-use Rattle.polys.proofs.Unique.{contains_head, contains_tail, contains_cases, contains_none}
+use Rattle.ideal_laws.proofs.Unique.{contains_head, contains_tail, contains_cases, contains_none}
 use Rattle.graded_modules.specs.Vector.{lead_mono}
 use Rattle.graded_modules.specs.Bases.{AreApart}
 

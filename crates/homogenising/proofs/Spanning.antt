@@ -16,9 +16,9 @@ use Rattle.polys.specs.Ideal.{InIdeal, combination}
 use Rattle.polys.specs.Reduced.{leads, lower_monos, IsLead, IsMinimalLead, IsReducedBasis}
 use Rattle.polys.proofs.Affine.{poly_sub, poly_mul, sevens_of}
 use Rattle.polys.proofs.Each.{every_more, every_normal, every_append, every_multiple}
-use Rattle.polys.proofs.Unique.{contains_head}
-use Rattle.polys.proofs.Differences.{sub_cons, sub_add, add_sub, less_difference}
-use Rattle.polys.proofs.Ideals.{in_none, in_add, in_sub, in_mul, in_poly, in_generator}
+use Rattle.ideal_laws.proofs.Unique.{contains_head}
+use Rattle.ideal_laws.proofs.Differences.{sub_cons, sub_add, add_sub, less_difference}
+use Rattle.ideal_laws.proofs.Ideals.{in_none, in_add, in_sub, in_mul, in_poly, in_generator}
 use Rattle.polys.proofs.Leads.{lead_of_mul, every_low}
 use Rattle.polys.proofs.Sums.{add_assoc, add_comm}
 use Rattle.polys.proofs.Units.{weigh-scaled, sub_self, add_none}

@@ -11,7 +11,7 @@ use Rattle.polys.specs.Poly.{IsPlain}
 use Rattle.polys.specs.Ideal.{InIdeal, combination}
 use Rattle.polys.proofs.Affine.{poly_normal}
 use Rattle.polys.proofs.Each.{every_zip, every_more, every_normal}
-use Rattle.polys.proofs.Ideals.{in_poly}
+use Rattle.ideal_laws.proofs.Ideals.{in_poly}
 use Rattle.polys.proofs.Units.{canonical_same}
 use Rattle.polys.proofs.Weights.{normal_canon, is_canonical}
 use Rattle.graded_modules.specs.Vector.{IsGraded, IsFactor, lead_mono}

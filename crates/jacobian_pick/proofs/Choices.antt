@@ -12,7 +12,7 @@ use Rattle.polys.specs.Poly.{Polynomial, terms_of}
 use Rattle.polys.specs.Reduced.{IsReducedBasis}
 use Rattle.polys.specs.Terms.{IsCanonical, IsPoly, IsMonicOf, mul, degree_of, one}
 use Rattle.polys.proofs.Affine.{affine_unit}
-use Rattle.polys.proofs.Ideals.{in_head, in_more, in_generator, in_larger, in_poly}
+use Rattle.ideal_laws.proofs.Ideals.{in_head, in_more, in_generator, in_larger, in_poly}
 use Rattle.denominator_module.proofs.Firsts.{all_from}
 use Rattle.denominator_module.specs.Module.{IsDeepDenominator}
 use Rattle.lift_colon.specs.Lifted.{LiftedData, IsLifted}

@@ -216,7 +216,7 @@ fn by_hand(
 /// # Errors
 /// In this order, each exactly where it says and none before it comes: `Deep` where the homogenised generators are deep
 /// under the cap; `Unit` where 1 is in the ideal; for a denominator that is handed in `DenominatorDeep`, `ZeroDivisor`,
-/// `Infinite`, `Wide`; `NoDenominator` where none is handed in and no candidate is good. `Memory` for want of memory.
+/// `Infinite`, `Wide`; `NoDenominator` where none is handed in and no candidate is good. `Memory` when out of memory.
 pub fn pick(alloc: Global, problem: &Problem, cap: u32) -> Result<Lifted, PickStop>
     requires ready { IsReady problem.now }
     requires some_cap { 1 ≤ cap }
@@ -228,7 +228,7 @@ pub fn pick(alloc: Global, problem: &Problem, cap: u32) -> Result<Lifted, PickSt
     // the dimension modulo the ideal and the denominator, by the bases and by the generators
     ensures dimension { IfOk result (λ l. (N : ℕ) → HasDimModulo (data_of (curve_of_lifted l)) N ↔ HasDimModulo (curve_of (problem_data problem.now) l.denominator.terms) N) }
     ensures cause { IfErr result (λ stop. IsCause (problem_data problem.now) cap stop) }
-    // each cause but want of memory is answered, unless memory runs out
+    // each cause but out of memory is answered, unless memory runs out
     ensures exact { (stop : PickStop) → stop ≢ Memory → IsCause (problem_data problem.now) cap stop → (result ≡ Err stop) ⊎ (result ≡ Err Memory) }
     // a proper ideal with a chosen denominator has it answered, unless memory runs out
     ensures complete { HasProperIdeal (problem_data problem.now) cap → (d : List Term) → IsChosen (problem_data problem.now) cap d → MatchResult result (λ l. l.denominator.terms ≡ d) (λ stop. stop ≡ Memory) }

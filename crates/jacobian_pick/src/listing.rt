@@ -82,7 +82,7 @@ fn third_list(
 /// sums of two of the first six of these by numbers, and then those by variables. Members of the ideal are left out.
 ///
 /// # Errors
-/// `NoMemory` for want of memory.
+/// `NoMemory` when out of memory.
 pub fn candidates(alloc: Global, problem: &Problem, basis: &[Poly]) -> Result<List<Poly>, NoMemory>
     requires ready { IsReady problem.now }
     requires basis { IsBasisOf problem.now basis.now }

@@ -13,7 +13,7 @@ use Rattle.polys.specs.Reduced.{IsReducedBasis}
 use Rattle.polys.specs.Terms.{EachMono, IsPoly, IsMonic, degree_of, mul}
 use Rattle.polys.proofs.Degrees.{AtMost, degree_le, each_degree}
 use Rattle.polys.proofs.Each.{every_add, every_mul, every_normal, every_zip, every_more}
-use Rattle.polys.proofs.Ideals.{in_head, in_more, in_generator, in_larger, in_poly}
+use Rattle.ideal_laws.proofs.Ideals.{in_head, in_more, in_generator, in_larger, in_poly}
 use Rattle.graded_modules.specs.Bases.{IsReduced, SpanOneModule}
 use Rattle.graded_modules.specs.Deep.{IsDeep}
 use Rattle.graded_modules.specs.Module.{InModule, IsLeadMultiple}

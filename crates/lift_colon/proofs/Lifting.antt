@@ -10,7 +10,7 @@ use Rattle.polys.specs.Ideal.{HasDim, HasInfiniteDim, InIdeal, Regular, Spans, n
 use Rattle.polys.specs.Poly.{Polynomial, IsPlain, terms_of}
 use Rattle.polys.specs.Terms.{EachMono, IsPoly, lead, degree_of, scaled, sub, mul, multiple}
 use Rattle.polys.proofs.Each.{every_more, every_zip}
-use Rattle.polys.proofs.Ideals.{in_head, in_more, in_generator, in_larger, in_poly}
+use Rattle.ideal_laws.proofs.Ideals.{in_head, in_more, in_generator, in_larger, in_poly}
 use Rattle.polys.proofs.Units.{canonical_same}
 use Rattle.polys.proofs.Weights.{is_canonical, normal_canon}
 use Rattle.graded_modules.specs.Bases.{IsReduced, IsNormalForm}

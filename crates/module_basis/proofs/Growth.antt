@@ -28,8 +28,8 @@ use Rattle.graded_modules.proofs.Members.{in_add, in_sub, in_multiple, in_genera
 use Rattle.graded_modules.proofs.Settled.{settled_law, unscaled}
 use Rattle.graded_modules.proofs.SVectors.{same_degrees}
 use Rattle.prime_field.proofs.Table.{positive_of_prime as positive, above_one}
-use Rattle.polys.proofs.Multiples.{multiple_multiple, multiple_residue, multiple_one, multiple_zero}
-use Rattle.polys.proofs.Differences.{from_sub, to_sub, sub_none}
+use Rattle.ideal_laws.proofs.Multiples.{multiple_multiple, multiple_residue, multiple_one, multiple_zero}
+use Rattle.ideal_laws.proofs.Differences.{from_sub, to_sub, sub_none}
 use Rattle.graded_modules.proofs.Tops.{tail_below}
 use Rattle.module_division.specs.Vectors.{member}
 use Rattle.module_basis.specs.declared.gens.Gens.{Gens}

@@ -5,7 +5,6 @@ use Rattle.polys.specs.Poly.{Polynomial}
 use Rattle.monomials.specs.Mono.{total_degree}
 use Rattle.homogenising.specs.Homogenised.{with_hom, homogenised}
 use Rattle.graded_modules.specs.Vector.{IsGenerator}
-pub use Rattle.polys.specs.Poly.{terms_of as term_lists}
 use Rattle.module_basis.specs.declared.gens.Gens.{Gens}
 
 -- a homogeneous vector of the program over this prime

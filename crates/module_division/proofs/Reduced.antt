@@ -13,7 +13,7 @@ use Rattle.polys.specs.Poly.{Polynomial, IsVector, terms_of}
 use Rattle.polys.specs.Terms.{IsCanonical, EachMono, IsMonic, IsPoly, sub}
 use Rattle.polys.specs.Reduced.{leads, lower_monos}
 use Rattle.polys.specs.Ideal.{InIdeal}
-use Rattle.polys.proofs.Ideals.{in_sub}
+use Rattle.ideal_laws.proofs.Ideals.{in_sub}
 use Rattle.polys.proofs.Affine.{poly_sub}
 use Rattle.polys.proofs.Sums.{add_comm}
 use Rattle.polys.proofs.Units.{canonical_same}
@@ -22,7 +22,7 @@ use Rattle.graded_modules.specs.Module.{InModule, IsLeadMultiple}
 use Rattle.graded_modules.specs.Bases.{AreApart}
 use Rattle.graded_modules.proofs.Members as Modules
 use Rattle.prime_field.proofs.Table.{positive_of_prime as positive}
-use Rattle.polys.proofs.Differences.{from_sub, to_sub, sub_cons, less_difference}
+use Rattle.ideal_laws.proofs.Differences.{from_sub, to_sub, sub_cons, less_difference}
 use Rattle.module_division.specs.Vectors.{member}
 use Rattle.module_division.specs.Reduction.{IsInterreduced}
 use Rattle.module_division.proofs.Lists.{count_lists}

@@ -17,15 +17,15 @@ use Rattle.polys.proofs.Each.{every_add, every_normal, every_products, every_mor
 use Rattle.polys.proofs.Units.{canonical_same}
 use Rattle.polys.proofs.Products.{mul_by_none}
 use Rattle.polys.proofs.Affine.{poly_normal, affine_times}
-use Rattle.polys.proofs.Ideals.{in_none, in_add, in_mul}
+use Rattle.ideal_laws.proofs.Ideals.{in_none, in_add, in_mul}
 use Rattle.graded_modules.specs.Vector.{IsGraded, IsGradedVector, IsGenerator, HasDegree, degree_at, lead_mono}
 use Rattle.graded_modules.specs.Module.{InModule}
 use Rattle.graded_modules.specs.SVector.{Multiple, total, top, IsBelow, IsSumBelow}
 use Rattle.graded_modules.proofs.Graded.{graded_times, degree_times}
 use Rattle.graded_modules.proofs.Members as Modules
 use Rattle.graded_modules.proofs.Multiples.{normal-total}
-use Rattle.polys.proofs.Multiples.{mul_two}
-use Rattle.polys.proofs.Differences.{to_sub}
+use Rattle.ideal_laws.proofs.Multiples.{mul_two}
+use Rattle.ideal_laws.proofs.Differences.{to_sub}
 use Rattle.graded_modules.proofs.SVectors.{same_degrees}
 use Rattle.graded_modules.proofs.Tops.{tail_below}
 use Rattle.module_division.specs.Division.{AreSteps, Reduces, after}

@@ -15,7 +15,7 @@ use Rattle.polys.specs.Poly.{Polynomial, IsVector, terms_of}
 use Rattle.polys.specs.Terms.{EachMono, IsMonic, IsPoly, degree_of}
 use Rattle.polys.proofs.Degrees.{AtMost, each_degree, degree_le}
 use Rattle.polys.proofs.Each.{every_more}
-use Rattle.polys.proofs.Ideals.{in_generator}
+use Rattle.ideal_laws.proofs.Ideals.{in_generator}
 use Rattle.graded_modules.specs.Module.{IsLeadMultiple}
 use Rattle.graded_modules.specs.Vector.{lead_mono}
 use Rattle.homogenising.proofs.Spanning.{reduced_law}

@@ -3,6 +3,7 @@ use Rattle.std.specs.Prelude.{◌≡◌, ℕ, ◌+◌, ◌≤◌, List, [], ◌�
 use Rattle.std.specs.declared.cmp.Ordering.{Ordering}
 use Rattle.std.specs.declared.cmp.Ordering.TheVariants.{Less, Equal, Greater}
 use Rattle.std.specs.Ordering.{ordering_then, nat_cmp}
+use Rattle.monomials.specs.declared.mono.TheConstants.{MAX_DEGREE}
 
 -- the exponents of the variables, the homogenising variable's last, and the component of the unit vector
 pub record Monomial : Type 0 where
@@ -57,5 +58,5 @@ cmp_dp a b =
 -- what holds of each monomial of the program
 pub record IsMono (m : Monomial) : Type 0 where
   pub seven : length m.exponents ≡ 7
-  pub bounded : total_degree m.exponents ≤ 60000
+  pub bounded : total_degree m.exponents ≤ MAX_DEGREE
   pub one_of_two : m.component ≤ 1

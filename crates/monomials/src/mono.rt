@@ -1,14 +1,18 @@
 // One monomial with its degree.
 ghost use Rattle.std.specs.Prelude.{◌≡◌, ℕ, ◌+◌, ◌<◌, ◌≤◌, ◌↔◌, IsTrue, slice_index, slice_set};
+ghost use Rattle.monomials.specs.declared.mono.TheConstants.{MAX_DEGREE};
 ghost use Rattle.monomials.specs.Mono.{cmp_dp, times, unit, variable, total_degree, common_multiple, Divides, IsMono};
 
 use std::cmp::Ordering;
 use std::marker::Model;
 
+/// The greatest degree of a monomial.
+pub const MAX_DEGREE: u32 = 60_000;
+
 /// A monomial in six variables and the homogenising variable, times one of two unit vectors.
 ///
 /// Contracts see the list of its seven exponents, the homogenising one last, and its component, 0 or 1.
-/// Its degree counts all seven exponents and is at most 60,000.
+/// Its degree counts all seven exponents and is at most `MAX_DEGREE`.
 #[derive(Clone, Copy, Debug, PartialEq, Eq)]
 pub struct Mono {
     exponents: [u16; 7],
@@ -89,7 +93,7 @@ impl Mono {
 
     /// This monomial with the homogenising exponent `e`.
     pub fn with_hom(self, e: u32) -> Mono
-        requires { total_degree (slice_set self.exponents 6 e) ≤ 60000 }
+        requires { total_degree (slice_set self.exponents 6 e) ≤ MAX_DEGREE }
         ensures value { result ≡ record self { exponents = slice_set self.exponents 6 e } }
         ensures known { IsMono result }
     {
@@ -158,7 +162,7 @@ impl Mono {
     /// The least common multiple of two monomials of one component.
     pub fn lcm(a: &Mono, b: &Mono) -> Mono
         requires component { a.now.component ≡ b.now.component }
-        requires room { total_degree (common_multiple a.now b.now).exponents ≤ 60000 }
+        requires room { total_degree (common_multiple a.now b.now).exponents ≤ MAX_DEGREE }
         ensures value { result ≡ common_multiple a.now b.now }
         ensures known { IsMono result }
     {
@@ -176,7 +180,7 @@ impl Mono {
     /// The product of a monomial and one of component 0, with the component of the first.
     pub fn product(a: &Mono, b: &Mono) -> Mono
         requires component { b.now.component ≡ 0 }
-        requires room { total_degree a.now.exponents + total_degree b.now.exponents ≤ 60000 }
+        requires room { total_degree a.now.exponents + total_degree b.now.exponents ≤ MAX_DEGREE }
         ensures value { result ≡ times a.now b.now }
         ensures known { IsMono result }
     {
@@ -211,7 +215,7 @@ impl Mono {
 }
 
 fn degree_of(exponents: &[u16; 7]) -> u16
-    requires { total_degree exponents.now ≤ 60000 }
+    requires { total_degree exponents.now ≤ MAX_DEGREE }
     ensures { result ≡ total_degree exponents.now }
 {
     let mut degree = 0;

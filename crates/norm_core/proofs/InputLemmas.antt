@@ -9,7 +9,8 @@ use Rattle.singular_text.specs.declared.faults.ReadFault.{ReadFault}
 use Rattle.singular_text.specs.declared.faults.ReadFault.TheVariants.{Syntax, Characteristic, Limit, Memory}
 use Rattle.problem.specs.declared.problem.Problem.{Problem}
 use Rattle.problem.specs.Problem.{problem_data}
-use Rattle.singular_text.specs.ProblemText.{ProblemText, IsTextOf, HasText, Answers, IsOfText, first_fault}
+use Rattle.problem_form.specs.ProblemText.{ProblemText, IsTextOf, HasText}
+use Rattle.singular_text.specs.Meanings.{Answers, IsOfText, first_fault}
 use Rattle.norm_core.specs.declared.refusals.Refusal.{Refusal}
 use Rattle.norm_core.specs.declared.refusals.Refusal.TheVariants as refusal
 use Rattle.norm_core.specs.Refusals.{status_of, line_of, bytes_line}

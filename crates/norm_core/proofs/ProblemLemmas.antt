@@ -7,14 +7,13 @@ use Rattle.prime_field.specs.Primes.{IsPrime}
 use Rattle.polys.specs.declared.term.Term.{Term}
 use Rattle.polys.specs.Curve.{HasDimModulo}
 use Rattle.polys.specs.Ideal.{HasDim}
-use Rattle.polys.specs.Poly.{Polynomial}
+use Rattle.polys.specs.Poly.{Polynomial, terms_of}
 use Rattle.polys.specs.Terms.{IsPoly}
-use Rattle.problem.specs.Problem.{IsFit, ProblemData, curve_of, problem_data, IsFitProblem, terms_of}
+use Rattle.problem.specs.Problem.{IsFit, ProblemData, curve_of, problem_data, IsFitProblem}
 use Rattle.problem.specs.declared.problem.Problem.{Problem}
 use Rattle.norm_text.specs.Plain.{IsPlain, plain_answer}
 use Rattle.norm_text.specs.Answer.{answer_text}
 use Rattle.norm_text.proofs.Plain.{plain_answers}
-use Rattle.module_basis.specs.Gens.{term_lists}
 use Rattle.lift_colon.specs.Lifted.{LiftedData, IsLifted}
 use Rattle.jacobian_pick.specs.Choice.{HasProperIdeal, IsGood, IsChosen, IsChosenBy, IsCause, IsLiftedOf}
 use Rattle.jacobian_pick.specs.declared.choosing.PickStop.{PickStop}
@@ -109,20 +108,20 @@ pub record IsPickedOf (problem : ProblemData) (cap : ℕ) (l : LiftedData) : Typ
   pub lifted : IsLiftedOf problem l
   pub known : IsLifted l
   pub has : HasDenominator problem cap l.denominator.terms
-  pub dimension : (N : ℕ) → HasDim l.prime l.variables (l.denominator.terms ∷ term_lists l.ideal) N ↔ HasDimModulo (curve_of problem l.denominator.terms) N
+  pub dimension : (N : ℕ) → HasDim l.prime l.variables (l.denominator.terms ∷ terms_of l.ideal) N ↔ HasDimModulo (curve_of problem l.denominator.terms) N
 
 no_lists : (at : List (List Polynomial)) → map terms_of at ≡ [] → at ≡ []
 no_lists [] e = refl
 no_lists (fs ∷ at) e = absurd (let n = ap length e in omega (arith, n))
 
 pub unserved-by : (problem : Problem) (cap : ℕ) (l : LiftedData) → IsPickedOf (problem_data problem) cap l
-    → (problem.at ≢ []) ⊎ (HasDim l.prime l.variables (l.denominator.terms ∷ term_lists l.ideal) 0 → ⊥) → IsUnserved (problem_data problem) l.denominator.terms
+    → (problem.at ≢ []) ⊎ (HasDim l.prime l.variables (l.denominator.terms ∷ terms_of l.ideal) 0 → ⊥) → IsUnserved (problem_data problem) l.denominator.terms
 unserved-by problem cap l picked (inl named) = inl (λ e. named (no_lists problem.at e))
 unserved-by problem cap l picked (inr not) =
     inr (something-left (problem_data problem) cap l.denominator.terms picked.has.chosen (λ h. not ((picked.dimension 0).1 h)))
 
 pub served-by : (problem : Problem) (cap : ℕ) (l : LiftedData) → IsPickedOf (problem_data problem) cap l
-    → (problem.at ≡ []) × HasDim l.prime l.variables (l.denominator.terms ∷ term_lists l.ideal) 0 → IsServed (problem_data problem) l.denominator.terms
+    → (problem.at ≡ []) × HasDim l.prime l.variables (l.denominator.terms ∷ terms_of l.ideal) 0 → IsServed (problem_data problem) l.denominator.terms
 served-by problem cap l picked served = record { unnamed = ap (map terms_of) served.0; nothing_left = (picked.dimension 0).0 served.1 }
 
 -- ---- the answer

@@ -4,7 +4,8 @@ use Rattle.std.specs.Io.KnownBytes.{Consumes, IsAtEnd, Appends}
 use Rattle.polys.specs.declared.term.Term.{Term}
 use Rattle.polys.specs.Curve.{HasDimModulo}
 use Rattle.problem.specs.Problem.{ProblemData, curve_of}
-use Rattle.singular_text.specs.ProblemText.{ProblemText, IsTextOf, HasText, first_fault, problem_of}
+use Rattle.problem_form.specs.ProblemText.{ProblemText, IsTextOf, HasText}
+use Rattle.singular_text.specs.Meanings.{first_fault, problem_of}
 use Rattle.singular_text.specs.declared.faults.ReadFault.{ReadFault}
 use Rattle.singular_text.specs.declared.faults.ReadFault.TheVariants.{Syntax}
 use Rattle.norm_text.specs.Answers.{IsAnswerText}

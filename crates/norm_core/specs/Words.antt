@@ -1,7 +1,7 @@
 -- The words after the program's name.
 use Rattle.std.specs.Prelude.{ℕ, ◌≡◌, ◌≤◌, List, [], ◌∷◌, ◌++◌, length, codes, IsTrue}
-use Rattle.singular_text.specs.Values.{number}
-use Rattle.singular_text.specs.Words.{is_number}
+use Rattle.poly_text.specs.Digits.{number}
+use Rattle.problem_form.specs.Words.{is_number}
 
 -- the word has 1 to 4 digits, which write the cap, from 1 to 1,000
 pub record IsCap (word : List ℕ) (cap : ℕ) : Type 0 where

@@ -2,7 +2,7 @@
 ghost use Rattle.std.specs.Prelude.{◌≡◌, ◌≢◌, ◌↔◌, ◌≤◌, ◌⊎◌, ℕ, [], ◌∷◌, All, IfOk, IfErr, IsTrue, false};
 ghost use Rattle.polys.specs.Ideal.{HasDim};
 ghost use Rattle.polys.specs.Terms.{one};
-ghost use Rattle.module_basis.specs.Gens.{term_lists};
+ghost use Rattle.polys.specs.Poly.{terms_of};
 ghost use Rattle.problem.specs.Problem.{IsFitProblem, problem_data};
 ghost use Rattle.norm_text.specs.Answer.{answer_text};
 ghost use Rattle.norm_text.specs.Plain.{plain_answer};
@@ -35,7 +35,7 @@ fn one(alloc: Global, prime: Prime) -> Result<Poly, NoMemory>
 
 // Whether nothing is left modulo the ideal and the denominator.
 fn is_nothing_left(alloc: Global, lifted: &Lifted) -> Result<bool, NoMemory>
-    ensures { IfOk result (λ yes. IsTrue yes ↔ HasDim lifted.now.prime lifted.now.variables (lifted.now.denominator.terms ∷ term_lists lifted.now.ideal) 0) }
+    ensures { IfOk result (λ yes. IsTrue yes ↔ HasDim lifted.now.prime lifted.now.variables (lifted.now.denominator.terms ∷ terms_of lifted.now.ideal) 0) }
 {
     match lifted.dimension(alloc, 0)? {
         Dimension::Finite(_) => Ok(true),
@@ -45,8 +45,8 @@ fn is_nothing_left(alloc: Global, lifted: &Lifted) -> Result<bool, NoMemory>
 
 // Whether no points are named, and nothing is left modulo the ideal and the denominator.
 fn is_served(alloc: Global, problem: &Problem, lifted: &Lifted) -> Result<bool, NoMemory>
-    ensures yes { IfOk result (λ yes. IsTrue yes → (problem.now.at ≡ []) × HasDim lifted.now.prime lifted.now.variables (lifted.now.denominator.terms ∷ term_lists lifted.now.ideal) 0) }
-    ensures no { IfOk result (λ yes. yes ≡ false → (problem.now.at ≢ []) ⊎ (HasDim lifted.now.prime lifted.now.variables (lifted.now.denominator.terms ∷ term_lists lifted.now.ideal) 0 → ⊥)) }
+    ensures yes { IfOk result (λ yes. IsTrue yes → (problem.now.at ≡ []) × HasDim lifted.now.prime lifted.now.variables (lifted.now.denominator.terms ∷ terms_of lifted.now.ideal) 0) }
+    ensures no { IfOk result (λ yes. yes ≡ false → (problem.now.at ≢ []) ⊎ (HasDim lifted.now.prime lifted.now.variables (lifted.now.denominator.terms ∷ terms_of lifted.now.ideal) 0 → ⊥)) }
 {
     if !problem.at.as_slice().is_empty() {
         return Ok(false);

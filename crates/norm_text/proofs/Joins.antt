@@ -1,7 +1,7 @@
 -- Texts joined by a separator.
 use Rattle.std.proofs.Common.{◌≡◌, ℕ, ◌+◌, ◌<◌, suc, List, [], ◌∷◌, ◌++◌, Bool, true, false, length, drop, get_or, refl, sym, ap, ◌∙◌, append_assoc, append-nil, add-one, drop-cons}
 use Rattle.std.specs.Prelude.{map}
-use Rattle.singular_text.specs.PolyText.{join}
+use Rattle.poly_text.specs.PolyText.{join}
 use Rattle.norm_text.specs.Joined.{separator_part, joined_rest}
 
 later : (between x : List ℕ) (xs : List (List ℕ)) → x ++ joined_rest between false xs ≡ join between (x ∷ xs)

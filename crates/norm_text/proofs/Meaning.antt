@@ -16,7 +16,7 @@ use Rattle.curve_laws.proofs.ClosingLaws.{exact_law}
 use Rattle.curve_laws.proofs.PointSetLaws.{grows_law}
 use Rattle.curve_points.specs.Points.{AreThePoints}
 use Rattle.curve_points.proofs.Points.{closure_points_law, integral_points_law}
-use Rattle.singular_text.specs.PolyText.{list_text}
+use Rattle.poly_text.specs.PolyText.{list_text}
 use Rattle.problem.specs.Problem.{ProblemData, curve_of}
 use Rattle.norm_text.specs.Named.{IsNamed, IsNamedList}
 use Rattle.norm_text.specs.Answer.{AnswerData}

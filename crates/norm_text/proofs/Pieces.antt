@@ -4,7 +4,7 @@ use Rattle.std.specs.Prelude.{All, map, codes, decimal}
 use Rattle.std.specs.List.{flat_map}
 use Rattle.std.proofs.lemmas.List.Elements.{All-head, All-tail}
 use Rattle.polys.specs.Poly.{Polynomial}
-use Rattle.singular_text.specs.PolyText.{join, poly_text}
+use Rattle.poly_text.specs.PolyText.{join, poly_text}
 use Rattle.norm_text.specs.declared.answer.PointLine.{PointLine}
 use Rattle.norm_text.specs.Answer.{point_line, numerator_line, line}
 use Rattle.norm_text.specs.Lines.{own_point_line, own_numerator_line}

@@ -7,7 +7,7 @@ use Rattle.polys.specs.Ideal.{InIdeal, IsSpanned, HasDim, Regular, number_combin
 use Rattle.polys.proofs.Sums.{mul_comm}
 use Rattle.polys.proofs.Units.{mul_one, sub_self, add_none}
 use Rattle.polys.proofs.Affine.{positive, poly_one, sevens_of}
-use Rattle.polys.proofs.Ideals.{in_none, in_mul, in_head, in_larger}
+use Rattle.ideal_laws.proofs.Ideals.{in_none, in_mul, in_head, in_larger}
 use Rattle.curve_model.specs.Fraction.{over}
 use Rattle.curve_model.specs.Laws.{IsFinite}
 use Rattle.curve_model.specs.Point.{IsPoint}

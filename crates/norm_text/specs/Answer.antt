@@ -2,7 +2,7 @@
 use Rattle.std.specs.Prelude.{ℕ, List, [], ◌∷◌, ◌++◌, map, codes, decimal, Option, None, Some}
 use Rattle.std.specs.List.{flat_map}
 use Rattle.polys.specs.declared.term.Term.{Term}
-use Rattle.singular_text.specs.PolyText.{join, poly_text, list_text}
+use Rattle.poly_text.specs.PolyText.{join, poly_text, list_text}
 
 -- a point with its residue degree and its delta
 pub record PointData : Type 0 where

@@ -1,7 +1,7 @@
 -- Lines of an answer, each polynomial over its own prime.
 use Rattle.std.specs.Prelude.{ℕ, List, ◌++◌, map, codes, decimal}
 use Rattle.polys.specs.Poly.{Polynomial}
-use Rattle.singular_text.specs.PolyText.{join, poly_text}
+use Rattle.poly_text.specs.PolyText.{join, poly_text}
 use Rattle.norm_text.specs.declared.answer.PointLine.{PointLine}
 use Rattle.norm_text.specs.Answer.{line}
 

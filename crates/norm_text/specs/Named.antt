@@ -7,7 +7,7 @@ use Rattle.polys.specs.declared.term.Term.{Term}
 use Rattle.polys.specs.Ideal.{InIdeal}
 use Rattle.polys.specs.Curve.{CurveData}
 use Rattle.curve_model.specs.Point.{IsPoint}
-use Rattle.singular_text.specs.PolyText.{list_text}
+use Rattle.poly_text.specs.PolyText.{list_text}
 use Rattle.problem.specs.Problem.{ProblemData}
 
 -- P is a point, and where the problem has `at` statements some of them has all its polynomials in the ideal of P

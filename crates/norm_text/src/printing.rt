@@ -1,7 +1,7 @@
 // Answers printed.
 ghost use Rattle.std.specs.Prelude.{◌≡◌, ◌++◌, [], ◌∷◌, codes, decimal, map, All, OnOk, IfOk};
 ghost use Rattle.std.specs.List.{flat_map};
-ghost use Rattle.singular_text.specs.PolyText.{poly_text, list_text, join};
+ghost use Rattle.poly_text.specs.PolyText.{poly_text, list_text, join};
 ghost use Rattle.norm_text.specs.Answer.{line, first_line, named_line, point_line, numerator_line, head_text, answer_text};
 ghost use Rattle.norm_text.specs.Lines.{own_point_line, own_numerator_line};
 ghost use Rattle.norm_text.specs.Joined.{separator_part, joined_rest};
@@ -11,7 +11,7 @@ use crate::{Answer, PointLine};
 use lists::{List, NoMemory};
 use polys::Poly;
 use problem::Letters;
-use singular_text::{print_bytes, print_number, print_poly};
+use poly_text::{print_bytes, print_number, print_poly};
 use std::alloc::Global;
 
 // A line with a number.

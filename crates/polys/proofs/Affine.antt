@@ -1,8 +1,8 @@
 -- Sums and products of polynomials in n variables are such polynomials.
-use Rattle.std.proofs.Common.{◌≡◌, ℕ, ◌-◌, ◌*◌, ◌<◌, zero, suc, List, [], ◌∷◌, ◌++◌, length, replicate, refl, ap, ◌∙◌, arith, append-nil}
+use Rattle.std.proofs.Common.{◌≡◌, ℕ, ◌-◌, ◌*◌, ◌<◌, zero, suc, List, [], ◌∷◌, ◌++◌, length, get_or, replicate, refl, ap, ◌∙◌, arith, append-nil}
 use Rattle.std.specs.List.{All}
 use Rattle.std.proofs.lemmas.List.Elements.{All-head, All-tail}
-use Rattle.monomials.specs.Mono.{Monomial, times, unit}
+use Rattle.monomials.specs.Mono.{Monomial, IsMono, times, unit}
 use Rattle.monomials.proofs.Exponents.{plus}
 use Rattle.monomials.proofs.Order.{times_comm, times_one}
 use Rattle.polys.specs.declared.term.Term.{Term}
@@ -29,6 +29,24 @@ zeros zero [] e h = refl
 zeros zero (x ∷ a) e h = absurd (omega arith)
 zeros (suc n) [] e h = absurd (omega arith)
 zeros (suc n) (x ∷ a) e h = λ i. h.0 i ∷ zeros n a (omega arith) h.1 i
+
+-- in a list of n + 1 numbers the last one is 0 if and only if the first n alone may be above 0
+only_last : (n : ℕ) (a : List ℕ) → length a ≡ suc n → get_or a n 0 ≡ 0 → OnlyFirst n a
+only_last n [] l z = tt
+only_last zero (x ∷ []) l z = (z, tt)
+only_last zero (x ∷ y ∷ a) l z = absurd (omega arith)
+only_last (suc n) (x ∷ a) l z = only_last n a (omega arith) z
+
+last_none : (n : ℕ) (a : List ℕ) → length a ≡ suc n → OnlyFirst n a → get_or a n 0 ≡ 0
+last_none n [] l o = absurd (omega arith)
+last_none zero (x ∷ a) l o = o.0
+last_none (suc n) (x ∷ a) l o = last_none n a (omega arith) o
+
+pub affine_mono : (m : Monomial) → IsMono m → get_or m.exponents 6 0 ≡ 0 → m.component ≡ 0 → IsAffine 6 m
+affine_mono m h z c = record { seven = h.seven; first = only_last 6 m.exponents h.seven z; plain = c }
+
+pub affine_hom : (m : Monomial) → IsAffine 6 m → get_or m.exponents 6 0 ≡ 0
+affine_hom m a = last_none 6 m.exponents a.seven a.first
 
 pub affine_times : (n : ℕ) (m w : Monomial) → IsAffine n m → IsAffine n w → IsAffine n (times m w)
 affine_times n m w h k = record {

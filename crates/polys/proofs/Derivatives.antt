@@ -32,12 +32,12 @@ plus-lowered (suc n) (x ∷ a) (suc v) e h k =
     let s : x + 0 ≡ x = omega arith in
     λ i. s i ∷ plus-lowered n a v (omega arith) (omega arith) k i
 
-times-lowered : (v : ℕ) (m : Monomial) → Seven m → v < 7 → 0 < get_or m.exponents v 0 → times (lowered v m) (variable v) ≡ m
+pub times-lowered : (v : ℕ) (m : Monomial) → Seven m → v < 7 → 0 < get_or m.exponents v 0 → times (lowered v m) (variable v) ≡ m
 times-lowered v m s h k =
     let c : m.component + 0 ≡ m.component = omega arith in
     λ i. record { exponents = plus-lowered 7 m.exponents v s h k i; component = c i }
 
-seven_lowered : (v : ℕ) (m : Monomial) → Seven m → Seven (lowered v m)
+pub seven_lowered : (v : ℕ) (m : Monomial) → Seven m → Seven (lowered v m)
 seven_lowered v m s = length-set m.exponents v (get_or m.exponents v 0 - 1) ∙ s
 
 -- the quotient by the variable

@@ -34,13 +34,13 @@ OnlyFirst n [] = Unit {0}
 OnlyFirst zero (x ∷ a) = (x ≡ 0) × OnlyFirst zero a
 OnlyFirst (suc n) (x ∷ a) = OnlyFirst n a
 
--- a monomial in the first n of the six variables, without the homogenising one and of component 0
+-- for n up to 6, a monomial in the first n of the six variables, without the homogenising one and of component 0
 pub record IsAffine (n : ℕ) (m : Monomial) : Type 0 where
   pub seven : length m.exponents ≡ 7
   pub first : OnlyFirst n m.exponents
   pub plain : m.component ≡ 0
 
--- a polynomial modulo p in the first n variables
+-- for n up to 6, a polynomial modulo p in the first n variables; n = 7 admits the homogenising variable too
 pub record IsPoly (p n : ℕ) (f : List Term) : Type 0 where
   pub canonical : IsCanonical p f
   pub affine : EachMono (IsAffine n) f

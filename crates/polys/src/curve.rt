@@ -1,7 +1,7 @@
 // A curve as plain data.
 ghost use Rattle.std.specs.Prelude.{◌≡◌, ◌↔◌, IsTrue};
 
-use crate::Poly;
+use crate::{Poly, are_same};
 use lists::List;
 use prime_field::Prime;
 
@@ -20,16 +20,9 @@ impl Curve {
     pub fn same(&self, other: &Curve) -> bool
         ensures { IsTrue result ↔ (self.now ≡ other.now) }
     {
-        let a = self.ideal.as_slice();
-        let b = other.ideal.as_slice();
-        if self.prime != other.prime || self.variables != other.variables || a.len() != b.len() {
-            return false;
-        }
-        for i in 0..a.len() {
-            if !a[i].same(&b[i]) {
-                return false;
-            }
-        }
-        self.denominator.same(&other.denominator)
+        self.prime == other.prime
+            && self.variables == other.variables
+            && are_same(self.ideal.as_slice(), other.ideal.as_slice())
+            && self.denominator.same(&other.denominator)
     }
 }

@@ -1,10 +1,11 @@
 // Polynomials, and vectors of two of them, as falling lists of terms.
-ghost use Rattle.std.specs.Prelude.{◌≡◌, ◌≢◌, ◌+◌, ◌*◌, ◌<◌, ◌≤◌, ◌↔◌, [], ◌∷◌, IsTrue, IfOk};
+ghost use Rattle.std.specs.Prelude.{◌≡◌, ◌≢◌, ◌+◌, ◌*◌, ◌<◌, ◌≤◌, ◌↔◌, [], ◌∷◌, IsTrue, IfOk, IfSome, IsNone, length};
+ghost use Rattle.monomials.specs.declared.mono.TheConstants.{MAX_DEGREE};
 ghost use Rattle.monomials.specs.Mono.{total_degree};
-ghost use Rattle.polys.specs.Terms.{normal, lead, degree_of, EachMono, IsMonicOf};
+ghost use Rattle.polys.specs.Terms.{normal, one, lead, degree_of, EachMono, IsAffine, IsMonicOf};
 ghost use Rattle.polys.specs.Poly.{IsVector, IsPlain, sum_of, difference_of, product_of, term_multiple_of, power_of, derivative_of};
 
-use crate::{Term, terms};
+use crate::{Term, terms, top};
 use lists::NoMemory;
 use prime_field::Prime;
 use std::alloc::Global;
@@ -42,6 +43,14 @@ impl Poly {
         }
     }
 
+    /// The polynomial 1.
+    pub fn one(alloc: Global, p: Prime) -> Result<Poly, NoMemory>
+        ensures { IfOk result (λ f. f ≡ record { prime = p; terms = one }) }
+    {
+        let terms = terms::one(alloc, p)?;
+        Ok(Poly { prime: p, terms })
+    }
+
     /// The polynomial whose terms these are, moved; they fall in dp and have coefficients from 1 to p - 1.
     pub fn of_terms(p: Prime, terms: Vec<Term>) -> Poly
         requires { IsVector p terms.items }
@@ -66,7 +75,7 @@ impl Poly {
     {
         let mut terms = Vec::new(alloc);
         if t.coeff != 0 {
-            terms.push(t).map_err(|_| NoMemory)?;
+            terms.push(t)?;
         }
         Ok(Poly { prime: p, terms })
     }
@@ -107,6 +116,13 @@ impl Poly {
         terms::is_plain(&self.terms)
     }
 
+    /// Whether all monomials are without the homogenising variable and of component 0: a polynomial in the six variables.
+    pub fn is_affine(&self) -> bool
+        ensures { IsTrue result ↔ EachMono (IsAffine 6) self.now.terms }
+    {
+        terms::is_affine(&self.terms)
+    }
+
     /// Whether the primes and the terms are equal.
     pub fn same(&self, other: &Poly) -> bool
         ensures { IsTrue result ↔ (self.now ≡ other.now) }
@@ -119,7 +135,7 @@ impl Poly {
         ensures { IfOk result (λ f. f ≡ self.now) }
     {
         let alloc = *self.terms.allocator();
-        let terms = self.terms.as_slice().to_vec(alloc).map_err(|_| NoMemory)?;
+        let terms = self.terms.as_slice().to_vec(alloc)?;
         Ok(Poly {
             prime: self.prime,
             terms,
@@ -132,7 +148,7 @@ impl Poly {
         ensures { IfOk result (λ f. f ≡ sum_of self.now other.now) }
     {
         let alloc = *self.terms.allocator();
-        let terms = terms::sum(alloc, self.prime, &self.terms, &other.terms).map_err(|_| NoMemory)?;
+        let terms = terms::sum(alloc, self.prime, &self.terms, &other.terms)?;
         Ok(Poly {
             prime: self.prime,
             terms,
@@ -146,12 +162,12 @@ impl Poly {
     {
         let alloc = *self.terms.allocator();
         let p = self.prime;
-        let negative = terms::multiple(alloc, p, p.get() - 1, &other.terms).map_err(|_| NoMemory)?;
-        let terms = terms::sum(alloc, p, &self.terms, &negative).map_err(|_| NoMemory)?;
+        let negative = terms::multiple(alloc, p, p.get() - 1, &other.terms)?;
+        let terms = terms::sum(alloc, p, &self.terms, &negative)?;
         Ok(Poly { prime: p, terms })
     }
 
-    /// The product. All monomials of `other` have component 0, and the degrees add up to at most 60,000.
+    /// The product. All monomials of `other` have component 0, and the degrees add up to at most `MAX_DEGREE`.
     ///
     /// The factor with fewer terms is halved again and again and the products of its parts are merged, so with m terms
     /// and n fewer terms it takes about m n log n steps. A vector with fewer terms than `other` is not halved: then it
@@ -159,13 +175,11 @@ impl Poly {
     pub fn mul(&self, other: &Poly) -> Result<Poly, NoMemory>
         requires prime { self.now.prime ≡ other.now.prime }
         requires plain { EachMono IsPlain other.now.terms }
-        requires room { degree_of self.now.terms + degree_of other.now.terms ≤ 60000 }
+        requires room { degree_of self.now.terms + degree_of other.now.terms ≤ MAX_DEGREE }
         ensures { IfOk result (λ f. f ≡ product_of self.now other.now) }
     {
         let alloc = *self.terms.allocator();
-        let terms = terms::product(alloc, self.prime, &self.terms, &other.terms).map_err(
-            |_| NoMemory,
-        )?;
+        let terms = terms::product(alloc, self.prime, &self.terms, &other.terms)?;
         Ok(Poly {
             prime: self.prime,
             terms,
@@ -173,39 +187,57 @@ impl Poly {
     }
 
     /// The product with the term `t` of component 0, whose coefficient is a residue. Unless that is 0, the degrees add
-    /// up to at most 60,000. It takes one step for each term.
+    /// up to at most `MAX_DEGREE`. It takes one step for each term.
     pub fn mul_term(&self, t: Term) -> Result<Poly, NoMemory>
         requires residue { t.coeff < self.now.prime }
         requires plain { IsPlain t.mono }
-        requires room { t.coeff ≢ 0 → degree_of self.now.terms + total_degree t.mono.exponents ≤ 60000 }
+        requires room { t.coeff ≢ 0 → degree_of self.now.terms + total_degree t.mono.exponents ≤ MAX_DEGREE }
         ensures { IfOk result (λ f. f ≡ term_multiple_of self.now t) }
     {
         let alloc = *self.terms.allocator();
         if t.coeff == 0 {
             return Ok(Poly::zero(alloc, self.prime));
         }
-        let terms = terms::term_multiple(alloc, self.prime, &self.terms, t).map_err(|_| NoMemory)?;
+        let terms = terms::term_multiple(alloc, self.prime, &self.terms, t)?;
         Ok(Poly {
             prime: self.prime,
             terms,
         })
     }
 
-    /// The power with the exponent `n`. All monomials have component 0, and `n` times the degree is at most 60,000.
+    /// The power with the exponent `n`. All monomials have component 0, and `n` times the degree is at most `MAX_DEGREE`.
     ///
     /// With two or more terms it takes n products with `self`, which for many terms costs less than squaring does.
     /// With one term or none it takes about log n products of one term.
     pub fn power(&self, n: u32) -> Result<Poly, NoMemory>
         requires plain { EachMono IsPlain self.now.terms }
-        requires room { degree_of self.now.terms * n ≤ 60000 }
+        requires room { degree_of self.now.terms * n ≤ MAX_DEGREE }
         ensures { IfOk result (λ f. f ≡ power_of self.now n) }
     {
         let alloc = *self.terms.allocator();
-        let terms = terms::power(alloc, self.prime, &self.terms, n).map_err(|_| NoMemory)?;
+        let terms = terms::power(alloc, self.prime, &self.terms, n)?;
         Ok(Poly {
             prime: self.prime,
             terms,
         })
+    }
+
+    /// The power, or `None` exactly where it has more terms than the limit. All monomials of `self` have component 0.
+    ///
+    /// A power with more terms is found out by its first terms, with no more than a few times as many terms as the limit
+    /// at a time, unless terms cancel out: then more and more of them are made, at last the whole power.
+    pub fn power_within(&self, n: u32, limit: usize) -> Result<Option<Poly>, NoMemory>
+        requires plain { EachMono IsPlain self.now.terms }
+        requires room { degree_of self.now.terms * n ≤ MAX_DEGREE }
+        ensures few { IfOk result (λ r. IfSome r (λ f. (f ≡ power_of self.now n) × (length f.terms ≤ limit))) }
+        ensures many { IfOk result (λ r. IsNone r → limit < length (power_of self.now n).terms) }
+    {
+        let alloc = *self.terms.allocator();
+        let p = self.prime;
+        match top::power_within(alloc, p, &self.terms, n, limit)? {
+            None => Ok(None),
+            Some(terms) => Ok(Some(Poly { prime: p, terms })),
+        }
     }
 
     /// The partial derivative by the variable number `v`, counted from 0.
@@ -214,7 +246,7 @@ impl Poly {
         ensures { IfOk result (λ f. f ≡ derivative_of self.now v) }
     {
         let alloc = *self.terms.allocator();
-        let terms = terms::derivative(alloc, self.prime, v, &self.terms).map_err(|_| NoMemory)?;
+        let terms = terms::derivative(alloc, self.prime, v, &self.terms)?;
         Ok(Poly {
             prime: self.prime,
             terms,
@@ -227,7 +259,7 @@ impl Poly {
         ensures monic { IfOk result (λ f. IsMonicOf self.now.prime self.now.terms f.terms) }
     {
         let alloc = *self.terms.allocator();
-        let terms = terms::monic(alloc, self.prime, &self.terms).map_err(|_| NoMemory)?;
+        let terms = terms::monic(alloc, self.prime, &self.terms)?;
         Ok(Poly {
             prime: self.prime,
             terms,

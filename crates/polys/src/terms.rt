@@ -1,7 +1,8 @@
 // Operations on falling lists of terms, below the type `Poly`.
 ghost use Rattle.std.specs.Prelude.{◌≡◌, ◌+◌, ◌*◌, ◌<◌, ◌≤◌, [], ◌∷◌, ◌↔◌, IfOk, IsTrue};
-ghost use Rattle.monomials.specs.Mono.{total_degree};
-ghost use Rattle.polys.specs.Terms.{add, multiple, mul, power, derivative, degree_of, EachMono, IsMonicOf};
+ghost use Rattle.monomials.specs.declared.mono.TheConstants.{MAX_DEGREE};
+ghost use Rattle.monomials.specs.Mono.{IsMono, total_degree};
+ghost use Rattle.polys.specs.Terms.{add, multiple, mul, one, power, derivative, degree_of, EachMono, IsAffine, IsMonicOf};
 ghost use Rattle.polys.specs.Poly.{IsVector, IsPlain};
 
 use crate::Term;
@@ -9,6 +10,20 @@ use monomials::Mono;
 use prime_field::Prime;
 use std::alloc::{AllocError, Global};
 use std::cmp::Ordering;
+
+// The polynomial 1.
+pub fn one(alloc: Global, p: Prime) -> Result<Vec<Term>, AllocError>
+    ensures value { IfOk result (λ v. v.items ≡ one) }
+    ensures known { IfOk result (λ v. IsVector p v.items) }
+{
+    let _modulus = p.get();
+    let mut out = Vec::new(alloc);
+    out.push(Term {
+        coeff: 1,
+        mono: Mono::one(),
+    })?;
+    Ok(out)
+}
 
 // The sum, by one merge.
 pub fn sum(alloc: Global, p: Prime, a: &[Term], b: &[Term]) -> Result<Vec<Term>, AllocError>
@@ -75,7 +90,7 @@ pub fn term_multiple(alloc: Global, p: Prime, a: &[Term], t: Term) -> Result<Vec
     requires not_zero { 0 < t.coeff }
     requires plain { IsPlain t.mono }
     requires terms { IsVector p a.now }
-    requires room { degree_of a.now + total_degree t.mono.exponents ≤ 60000 }
+    requires room { degree_of a.now + total_degree t.mono.exponents ≤ MAX_DEGREE }
     ensures value { IfOk result (λ v. v.items ≡ mul p a.now (t ∷ [])) }
     ensures known { IfOk result (λ v. IsVector p v.items) }
 {
@@ -101,7 +116,7 @@ fn product_by_halves(
     requires left { IsVector p a.now }
     requires right { IsVector p b.now }
     requires plain { EachMono IsPlain b.now }
-    requires room { degree_of a.now + degree_of b.now ≤ 60000 }
+    requires room { degree_of a.now + degree_of b.now ≤ MAX_DEGREE }
     ensures value { IfOk result (λ v. v.items ≡ mul p a.now b.now) }
     ensures known { IfOk result (λ v. IsVector p v.items) }
 {
@@ -129,12 +144,25 @@ pub fn is_plain(a: &[Term]) -> bool
     true
 }
 
+// Whether all monomials are without the homogenising variable and of component 0.
+pub fn is_affine(a: &[Term]) -> bool
+    requires { EachMono IsMono a.now }
+    ensures { IsTrue result ↔ EachMono (IsAffine 6) a.now }
+{
+    for t in a {
+        if t.mono.hom() != 0 || t.mono.component() != 0 {
+            return false;
+        }
+    }
+    true
+}
+
 // The product. The factor with fewer terms is halved, unless the other is a vector.
 pub fn product(alloc: Global, p: Prime, a: &[Term], b: &[Term]) -> Result<Vec<Term>, AllocError>
     requires left { IsVector p a.now }
     requires right { IsVector p b.now }
     requires plain { EachMono IsPlain b.now }
-    requires room { degree_of a.now + degree_of b.now ≤ 60000 }
+    requires room { degree_of a.now + degree_of b.now ≤ MAX_DEGREE }
     ensures value { IfOk result (λ v. v.items ≡ mul p a.now b.now) }
     ensures known { IfOk result (λ v. IsVector p v.items) }
 {
@@ -149,15 +177,12 @@ pub fn product(alloc: Global, p: Prime, a: &[Term], b: &[Term]) -> Result<Vec<Te
 fn power_by_products(alloc: Global, p: Prime, a: &[Term], n: u32) -> Result<Vec<Term>, AllocError>
     requires terms { IsVector p a.now }
     requires plain { EachMono IsPlain a.now }
-    requires room { degree_of a.now * n ≤ 60000 }
+    requires room { degree_of a.now * n ≤ MAX_DEGREE }
     ensures value { IfOk result (λ v. v.items ≡ power p a.now n) }
     ensures known { IfOk result (λ v. IsVector p v.items) }
 {
-    let mut out = Vec::new(alloc);
-    out.push(Term {
-        coeff: 1 % p.get(),
-        mono: Mono::one(),
-    })?;
+    let start = one(alloc, p)?;
+    let mut out = start;
     for _ in 0..n {
         out = product(alloc, p, &out, a)?;
     }
@@ -168,7 +193,7 @@ fn power_by_products(alloc: Global, p: Prime, a: &[Term], n: u32) -> Result<Vec<
 fn power_by_squares(alloc: Global, p: Prime, a: &[Term], n: u32) -> Result<Vec<Term>, AllocError>
     requires terms { IsVector p a.now }
     requires plain { EachMono IsPlain a.now }
-    requires room { degree_of a.now * n ≤ 60000 }
+    requires room { degree_of a.now * n ≤ MAX_DEGREE }
     ensures value { IfOk result (λ v. v.items ≡ power p a.now n) }
     ensures known { IfOk result (λ v. IsVector p v.items) }
 {
@@ -188,7 +213,7 @@ fn power_by_squares(alloc: Global, p: Prime, a: &[Term], n: u32) -> Result<Vec<T
 pub fn power(alloc: Global, p: Prime, a: &[Term], n: u32) -> Result<Vec<Term>, AllocError>
     requires terms { IsVector p a.now }
     requires plain { EachMono IsPlain a.now }
-    requires room { degree_of a.now * n ≤ 60000 }
+    requires room { degree_of a.now * n ≤ MAX_DEGREE }
     ensures value { IfOk result (λ v. v.items ≡ power p a.now n) }
     ensures known { IfOk result (λ v. IsVector p v.items) }
 {

@@ -2,7 +2,7 @@
 use Rattle.std.specs.Prelude.{ℕ, ◌≡◌, ◌≤◌, List, length, map, All, Option, option_map, IfSome}
 use Rattle.prime_field.specs.Primes.{IsPrime}
 use Rattle.polys.specs.declared.term.Term.{Term}
-use Rattle.polys.specs.Poly.{Polynomial}
+use Rattle.polys.specs.Poly.{Polynomial, terms_of}
 use Rattle.polys.specs.Curve.{CurveData}
 use Rattle.polys.specs.Terms.{IsPoly, degree_of}
 use Rattle.problem.specs.Letters.{AreLetters}
@@ -31,9 +31,6 @@ pub record IsProblem (problem : ProblemData) : Type 0 where
 abbrev pub curve_of : ProblemData → List Term → CurveData
 curve_of problem d =
     record { prime = problem.prime; variables = length problem.letters; ideal = problem.generators; denominator = d }
-
-abbrev pub terms_of : List Polynomial → List (List Term)
-terms_of fs = map (λ f. f.terms) fs
 
 -- the data of a problem of the program
 abbrev pub problem_data : Problem → ProblemData

@@ -7,10 +7,11 @@ use Rattle.row_space.specs.Sums.{weighted, IsWeighted, IsRightPart, side_by_side
 use Rattle.row_space.specs.Echelon.{IsRow, IsEchelon}
 use Rattle.row_space.specs.Subspace.{Subspace, IsIn, IsImage, IsZero, Joins, product}
 use Rattle.row_space.proofs.Weights.{weighted-same, same_in}
-use Rattle.row_space.proofs.Members.{row-entry, combination-entry, weighted_of, span_of}
+use Rattle.row_space.proofs.Members.{combination-entry, weighted_of, span_of}
 use Rattle.row_space.proofs.Gathering.{joins_twice}
 use Rattle.row_space.proofs.RightParts.{right_covers}
 use Rattle.row_space.proofs.Images.{images_are, weighted-units}
+use Rattle.comm_ring.proofs.Rows.{row-entry}
 
 pub all_moved : (p q v w : ℕ) (us : List (List ℕ)) → q ≡ p → w ≡ v → All (IsRow p v) us → All (IsRow q w) us
 all_moved p q v w us ep ew h = subst (λ n. All (IsRow n w) us) (sym ep) (subst (λ n. All (IsRow p n) us) (sym ew) h)

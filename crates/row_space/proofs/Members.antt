@@ -1,14 +1,11 @@
 -- Sums of multiples of rows in the module of all rows.
 use Rattle.std.proofs.Common.{◌≡◌, ℕ, ◌+◌, ◌*◌, ◌%◌, ◌<◌, List, [], ◌∷◌, get_or, map, sym, ap, ◌∙◌, arith}
 use Rattle.std.specs.List.{range_with_len}
-use Rattle.std.proofs.lemmas.List.FromFn.{get_or-map-range_with_len}
 use Rattle.std.proofs.Math.Nat.{mod-mod, add-mod, zero-mod}
 use Rattle.comm_ring.specs.Modules.{combine, combination, InSpan}
 use Rattle.comm_ring.specs.Rows.{rows}
+use Rattle.comm_ring.proofs.Rows.{row-entry}
 use Rattle.row_space.specs.Sums.{weighted, IsWeighted}
-
-pub row-entry : (width : ℕ) (f : ℕ → ℕ) (k : ℕ) → k < width → get_or (map f (range_with_len 0 width)) k 0 ≡ f k
-row-entry width f k h = get_or-map-range_with_len f 0 width k k 0 h (omega arith)
 
 pub combination-entry : (p width : ℕ) (cs : List ℕ) (us : List (List ℕ)) (k : ℕ) → k < width → get_or (combination (rows p width) cs us) k 0 ≡ weighted cs us k % p
 unfolding combine

@@ -14,8 +14,9 @@ use Rattle.row_space.specs.Echelon.{IsEchelon, IsRest, IsRow, entries_at}
 use Rattle.row_space.specs.Subspace.{Subspace, IsSumOfBasis, Gains, Joins, DifferIn, IsZeroAtPivots}
 use Rattle.row_space.proofs.Weights.{weighted-same, cancel-mod, multiple-mod, through, covers_trans, covers_cons, covers_tail, covers_self, member_in, more_in, same_in}
 use Rattle.row_space.proofs.Gathering.{covers_append, covers_left, covers_right, covers_one}
-use Rattle.row_space.proofs.Members.{row-entry, combination-entry, weighted_of, span_of}
+use Rattle.row_space.proofs.Members.{combination-entry, weighted_of, span_of}
 use Rattle.row_space.proofs.Rest.{coefficient, entries_long, rest_of_member, member_of_rest}
+use Rattle.comm_ring.proofs.Rows.{row-entry}
 
 -- the space with these rows
 abbrev pub space : (p width : ℕ) → List (List ℕ) → Subspace

@@ -8,7 +8,8 @@ use Rattle.row_space.specs.Sums.{weighted, IsWeighted, Covers}
 use Rattle.row_space.specs.Subspace.{Subspace, IsIn, IsSumOf, Joins}
 use Rattle.row_space.proofs.Weights.{weighted-split, through, covers_trans, more_in, same_in}
 use Rattle.row_space.proofs.Gathering.{covers_append, covers_left, covers_right}
-use Rattle.row_space.proofs.Members.{row-entry, combination-entry, weighted_of, span_of}
+use Rattle.row_space.proofs.Members.{combination-entry, weighted_of, span_of}
+use Rattle.comm_ring.proofs.Rows.{row-entry}
 
 abbrev pub zero_space : Subspace → Subspace
 zero_space s = record { prime = s.prime; width = s.width; basis = [] }

@@ -3,15 +3,15 @@ use Rattle.std.proofs.Common.{◌≡◌, ℕ, ◌≤◌, List, [], ◌∷◌, �
 use Rattle.std.specs.Prelude.{codes, IsTrue, ◌≢◌}
 use Rattle.std.specs.Char.{is_ascii_alphabetic}
 use Rattle.polys.specs.Poly.{Polynomial, product_of}
-use Rattle.singular_text.specs.declared.words.Class.{Class}
-use Rattle.singular_text.specs.declared.words.Class.TheVariants as class
+use Rattle.problem_form.specs.declared.words.Class.{Class}
+use Rattle.problem_form.specs.declared.words.Class.TheVariants as class
 use Rattle.singular_text.specs.declared.faults.ReadFault.{ReadFault}
 use Rattle.singular_text.specs.declared.evaluation.Frame.{Frame}
 use Rattle.problem.specs.Letters.{is_among}
-use Rattle.singular_text.specs.Words.{is_number, is_run, class_of}
-use Rattle.singular_text.specs.Expressions.{Expression, Letter, Number, Parentheses, Run, Power, Product, Signed, Sum, rank, IsFormed, sign, spelling}
+use Rattle.problem_form.specs.Words.{is_number, is_run, class_of}
+use Rattle.problem_form.specs.Expressions.{Expression, Letter, Number, Parentheses, Run, Power, Product, Signed, Sum, rank, IsFormed, sign, spelling}
 use Rattle.singular_text.specs.Evaluating.{and_then, checked, term_with, sum_with, close, new_frame, with_factor, constant, variable_value, run_value, power_value, inner_step, step, closed, evaluate}
-use Rattle.singular_text.proofs.Marks.{open_class, close_class, caret_class, star_class, sign_has_class, number_class, run_class, letter_class, semicolon_class, comma_class}
+use Rattle.problem_form.proofs.Marks.{open_class, close_class, caret_class, star_class, sign_has_class, number_class, run_class, letter_class, semicolon_class, comma_class}
 use Rattle.singular_text.proofs.Steps.{pop_end, inner_next, semicolon_next, comma_next}
 
 pub is_true : (b : Bool) → IsTrue b → b ≡ true

@@ -5,7 +5,7 @@ use Rattle.std.proofs.lemmas.Bool.Decides.{nat_tests}
 use native.Mathlib.Nat.{mod-eq_of_lt}
 use Rattle.monomials.specs.Mono.{Monomial, total_degree, unit, variable}
 use Rattle.problem.specs.Letters.{is_among, place}
-use Rattle.singular_text.specs.Words.{is_number, is_run, are_run_bytes, IsLetterOf}
+use Rattle.problem_form.specs.Words.{is_number, is_run, are_run_bytes, IsLetterOf}
 use Rattle.singular_text.specs.declared.faults.ReadFault.TheVariants.{Limit}
 use Rattle.singular_text.specs.declared.faults.Which.TheVariants.{Size}
 use Rattle.prime_field.specs.Primes.{IsPrime}
@@ -16,11 +16,14 @@ use Rattle.polys.specs.Poly.{Polynomial, IsPlain, sum_of, difference_of, product
 use Rattle.polys.specs.Ring.{AreClosed}
 use Rattle.polys.specs.Laws.{RingLaws, LeadLaws}
 use Rattle.singular_text.specs.declared.faults.ReadFault.{ReadFault}
-use Rattle.singular_text.specs.Values.{number, term_of, front_number, run_monomial}
+use Rattle.poly_text.specs.Digits.{number}
+use Rattle.singular_text.specs.Values.{term_of, front_number, run_monomial}
 use Rattle.problem.specs.Problem.{IsFit}
 use Rattle.singular_text.specs.Evaluating.{zero_poly, checked, run_value, power_value}
 use Rattle.singular_text.proofs.Powers.{power_digit, power_degree}
-use Rattle.singular_text.proofs.Affine.{affine_variable, affine_run, affine_unit}
+use Rattle.poly_text.proofs.VariablePowers.{affine_variable}
+use Rattle.singular_text.proofs.Runs.{affine_run}
+use Rattle.polys.proofs.Affine.{affine_unit}
 use Rattle.problem.proofs.Places.{place_within}
 
 pub plain_of : (n : ℕ) (f : List Term) → EachMono (IsAffine n) f → EachMono IsPlain f

@@ -1,29 +1,11 @@
-pub mod Fronts
-pub mod Texts
-pub mod Lexing
-pub mod Counting
-pub mod Scans
-pub mod Listed
-pub mod Numbers
-pub mod Monomials
-pub mod Powers
-pub mod Affine
-pub mod Reader
-pub mod Classes
-pub mod Fits
-pub mod Handing
-pub mod Steps
-pub mod Marks
-pub mod Evaluates
-pub mod ScanReads
-pub mod TokensOf
-pub mod ScanTrees
-pub mod SmallValues
-pub mod ScanLists
-pub mod Rings
-pub mod Bodies
-pub mod Wholes
-pub mod ReadBack
-pub mod Statements
-pub mod Outcomes
-pub mod Stating
+mod Numbers
+mod Runs
+mod Powers
+mod Fits
+mod Handing
+mod Steps
+mod Evaluates
+mod SmallValues
+mod Statements
+mod Stating
+mod Outcomes

@@ -2,7 +2,7 @@
 use Rattle.std.proofs.Common.{◌≡◌, ℕ, ◌+◌, ◌*◌, ◌-◌, ◌%◌, ◌<◌, ◌≤◌, min, List, [], ◌∷◌, length, drop, get_or, refl, sym, ap, ◌∙◌, arith, add-one, drop-cons}
 use Rattle.std.proofs.lemmas.List.{drop_all}
 use Rattle.comm_ring.proofs.Residues.{mod_ring, mod_quote}
-use Rattle.singular_text.specs.Values.{number, number_after}
+use Rattle.poly_text.specs.Digits.{number, number_after}
 
 step_mod : (p n e : ℕ) → 0 < p → ((n % p) * 10 + e) % p ≡ (n * 10 + e) % p
 step_mod p n e positive = mod_ring p positive (n ∷ e ∷ []) _ _ (search mod_quote depth 20) tt

@@ -9,21 +9,24 @@ use Rattle.std.proofs.lemmas.Bool.Decides.{nat_tests}
 use Rattle.prime_field.specs.Primes.{characteristics}
 use Rattle.prime_field.specs.Primes as primes
 use Rattle.polys.specs.declared.term.Term.{Term}
-use Rattle.polys.specs.Poly.{Polynomial}
+use Rattle.polys.specs.Poly.{Polynomial, terms_of}
 use Rattle.singular_text.specs.declared.faults.ReadFault.{ReadFault}
 use Rattle.singular_text.specs.declared.faults.ReadFault.TheVariants.{Syntax, Characteristic, Limit, Memory}
 use Rattle.singular_text.specs.declared.faults.Which.TheVariants.{Variables, Generators, Points, Nesting, Digits, Size}
 use Rattle.problem.specs.declared.problem.Problem.{Problem}
-use Rattle.singular_text.specs.declared.scanning.Scan.{Scan}
+use Rattle.problem_form.specs.declared.scanning.Scan.{Scan}
 use Rattle.problem.specs.Letters.{is_among}
-use Rattle.singular_text.specs.Words.{is_name}
-use Rattle.singular_text.specs.Expressions.{Expression, nesting, most_digits}
-use Rattle.singular_text.specs.Values.{number, value}
-use Rattle.singular_text.specs.Reading.{begun_at}
-use Rattle.problem.specs.Problem.{ProblemData, problem_data, terms_of, IsFitProblem, IsFit}
-use Rattle.singular_text.specs.ProblemText.{ProblemText, DenominatorText, IsGrammatical, IsTextOf, HasText, AreExpressions, IsDenominator, Answers, list_spelling, denominator_spelling, at_spelling, denominators, denominator_value, expressions, greatest, has_small_values, first_fault, problem_of}
+use Rattle.problem_form.specs.Words.{is_name}
+use Rattle.problem_form.specs.Expressions.{Expression, nesting, most_digits}
+use Rattle.poly_text.specs.Digits.{number}
+use Rattle.singular_text.specs.Values.{value}
+use Rattle.problem_form.specs.Reading.{begun_at}
+use Rattle.problem.specs.Problem.{ProblemData, problem_data, IsFitProblem, IsFit}
+use Rattle.problem_form.specs.ProblemText.{ProblemText, DenominatorText, IsGrammatical, IsTextOf, HasText, AreExpressions, IsDenominator, list_spelling, denominator_spelling, at_spelling, denominators, expressions, greatest}
+use Rattle.singular_text.specs.Meanings.{Answers, denominator_value, has_small_values, first_fault, problem_of}
 use Rattle.singular_text.specs.Evaluating.{Agrees, and_then, evaluate, new_frame}
-use Rattle.singular_text.specs.Forms.{HasFitPolys, body_spelling, Counts, IsFormOf, count_fault, or_fault, denominator_by, denominator_at, points_at, problem_with, problem_at, problem_by}
+use Rattle.singular_text.specs.Checks.{HasFitPolys, count_fault, or_fault, denominator_by, denominator_at, points_at, problem_with, problem_at, problem_by}
+use Rattle.problem_form.specs.Forms.{body_spelling, Counts, IsFormOf}
 use Rattle.singular_text.proofs.SmallValues.{where_small, poly, list_values}
 use Rattle.problem.proofs.Places.{letters_alphabetic}
 

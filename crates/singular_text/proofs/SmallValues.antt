@@ -9,9 +9,10 @@ use Rattle.singular_text.specs.declared.faults.ReadFault.{ReadFault}
 use Rattle.singular_text.specs.declared.faults.ReadFault.TheVariants.{Limit}
 use Rattle.singular_text.specs.declared.faults.Which.TheVariants.{Size}
 use Rattle.problem.specs.Letters.{is_among}
-use Rattle.singular_text.specs.Expressions.{Expression, Letter, Number, Parentheses, Run, Power, Product, Signed, Sum, IsFormed, spelling}
+use Rattle.problem_form.specs.Expressions.{Expression, Letter, Number, Parentheses, Run, Power, Product, Signed, Sum, IsFormed, spelling}
 use Rattle.singular_text.specs.Values.{value, subexpressions, is_small}
-use Rattle.singular_text.specs.ProblemText.{has_small_values, list_spelling}
+use Rattle.singular_text.specs.Meanings.{has_small_values}
+use Rattle.problem_form.specs.ProblemText.{list_spelling}
 use Rattle.singular_text.specs.Evaluating.{and_then, checked, sum_with, power_value, evaluate, new_frame}
 use Rattle.singular_text.proofs.Evaluates.{checked_value, reads_to_semicolon, reads_to_comma}
 

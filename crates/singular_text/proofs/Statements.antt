@@ -5,9 +5,9 @@ use Rattle.std.specs.Option.{option_to_list}
 use Rattle.std.specs.List.{AllByRecursion, last_or}
 use Rattle.polys.specs.Poly.{Polynomial}
 use Rattle.singular_text.specs.declared.faults.ReadFault.{ReadFault}
-use Rattle.singular_text.specs.Reading.{begun_at}
+use Rattle.problem_form.specs.Reading.{begun_at}
 use Rattle.singular_text.specs.Evaluating.{IsFault, and_then, evaluate, new_frame}
-use Rattle.singular_text.specs.Forms.{denominator_by, denominator_at, points_at}
+use Rattle.singular_text.specs.Checks.{denominator_by, denominator_at, points_at}
 use Rattle.singular_text.proofs.Handing.{fault_through}
 
 -- ---- the last item

@@ -13,11 +13,15 @@ use Rattle.problem.specs.declared.problem.Problem.{Problem}
 use Rattle.problem.specs.Problem.{ProblemData, IsProblem, problem_data}
 use Rattle.problem.proofs.Places.{place_within}
 use Rattle.singular_text.specs.declared.faults.ReadFault.{ReadFault}
-use Rattle.singular_text.specs.Words.{is_run}
-use Rattle.singular_text.specs.Expressions.{Expression, Letter, Number, Parentheses, Run, Power, Product, Signed, Sum, IsFormed, nesting, most_digits}
-use Rattle.singular_text.specs.Values.{number, value, signed}
-use Rattle.singular_text.specs.ProblemText.{ProblemText, DenominatorText, IsTextOf, HasText, IsGrammatical, IsDenominator, AreExpressions, Answers, TextsStateProblems, denominator_value, expressions, greatest, has_small_values, first_fault, problem_of}
-use Rattle.singular_text.proofs.Affine.{affine_variable, affine_run, affine_unit, poly_term}
+use Rattle.problem_form.specs.Words.{is_run}
+use Rattle.problem_form.specs.Expressions.{Expression, Letter, Number, Parentheses, Run, Power, Product, Signed, Sum, IsFormed, nesting, most_digits}
+use Rattle.poly_text.specs.Digits.{number}
+use Rattle.singular_text.specs.Values.{value, signed}
+use Rattle.problem_form.specs.ProblemText.{ProblemText, DenominatorText, IsTextOf, HasText, IsGrammatical, IsDenominator, AreExpressions, expressions, greatest}
+use Rattle.singular_text.specs.Meanings.{Answers, TextsStateProblems, denominator_value, has_small_values, first_fault, problem_of}
+use Rattle.poly_text.proofs.VariablePowers.{affine_variable}
+use Rattle.singular_text.proofs.Runs.{affine_run, poly_term}
+use Rattle.polys.proofs.Affine.{affine_unit}
 use Rattle.singular_text.proofs.Fits.{run_bytes_of}
 
 -- ---- values are polynomials in the letters' variables

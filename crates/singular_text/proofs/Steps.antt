@@ -2,12 +2,12 @@
 use Rattle.std.proofs.Common.{◌≡◌, ℕ, List, [], ◌∷◌, ◌++◌, take, ◌-◌, ◌≢◌, refl, sym, ap, ◌∙◌, subst, arith, Option, Some, None, Result, Ok, Err}
 use Rattle.std.specs.List.{AllByRecursion}
 use Rattle.polys.specs.Poly.{Polynomial}
-use Rattle.singular_text.specs.declared.words.Class.{Class}
-use Rattle.singular_text.specs.declared.words.Class.TheVariants as class
+use Rattle.problem_form.specs.declared.words.Class.{Class}
+use Rattle.problem_form.specs.declared.words.Class.TheVariants as class
 use Rattle.singular_text.specs.declared.faults.ReadFault.{ReadFault}
 use Rattle.singular_text.specs.declared.faults.ReadFault.TheVariants.{Syntax}
 use Rattle.singular_text.specs.declared.evaluation.Frame.{Frame}
-use Rattle.singular_text.specs.Words.{class_of}
+use Rattle.problem_form.specs.Words.{class_of}
 use Rattle.singular_text.specs.Evaluating.{IsFault, and_then, close, closed, pop, pop_behind, step, with_factor, new_frame, by_class, evaluate, IsFitFrame}
 use Rattle.problem.specs.Problem.{IsFit}
 use Rattle.singular_text.proofs.Handing.{fault_through}

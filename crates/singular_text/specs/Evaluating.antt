@@ -5,10 +5,11 @@ use Rattle.polys.specs.Terms.{IsPoly, degree_of}
 use Rattle.polys.specs.Poly.{Polynomial, sum_of, difference_of, product_of, power_of}
 use Rattle.problem.specs.Letters.{place}
 use Rattle.problem.specs.Problem.{IsFit}
-use Rattle.singular_text.specs.Words.{class_of}
-use Rattle.singular_text.specs.Values.{number, front_number, run_monomial, term_of, is_small}
-use Rattle.singular_text.specs.declared.words.Class.{Class}
-use Rattle.singular_text.specs.declared.words.Class.TheVariants as class
+use Rattle.problem_form.specs.Words.{class_of}
+use Rattle.poly_text.specs.Digits.{number}
+use Rattle.singular_text.specs.Values.{front_number, run_monomial, term_of, is_small}
+use Rattle.problem_form.specs.declared.words.Class.{Class}
+use Rattle.problem_form.specs.declared.words.Class.TheVariants as class
 use Rattle.singular_text.specs.declared.faults.ReadFault.{ReadFault}
 use Rattle.singular_text.specs.declared.faults.ReadFault.TheVariants.{Syntax, Limit, Memory}
 use Rattle.singular_text.specs.declared.faults.Which.TheVariants.{Size}

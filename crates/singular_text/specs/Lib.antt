@@ -1,14 +1,6 @@
-pub mod PolyText
-pub mod Printing
-pub mod Parts
-pub mod Tokens
-pub mod Words
-pub mod Scanning
-pub mod Expressions
+-- cited by public clauses
 pub mod Values
-pub mod ProblemText
-pub mod Reading
+pub mod Meanings
+-- steps of the code
 pub mod Evaluating
-pub mod Forms
-pub mod PolyReading
-pub mod TermReading
+pub mod Checks

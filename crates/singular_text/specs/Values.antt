@@ -1,20 +1,14 @@
 -- The values of expressions: polynomials modulo p.
-use Rattle.std.specs.Prelude.{ℕ, ◌+◌, ◌*◌, ◌-◌, ◌%◌, ◌==◌, ◌&&◌, nat_le, length, slice_set, slice_index, suc, if◌then◌else◌, Bool, true, false, List, [], ◌∷◌, ◌++◌}
+use Rattle.std.specs.Prelude.{ℕ, ◌+◌, ◌*◌, ◌-◌, ◌%◌, ◌==◌, ◌&&◌, nat_le, length, if◌then◌else◌, Bool, true, false, List, [], ◌∷◌, ◌++◌}
 use Rattle.std.specs.Char.{is_ascii_digit}
 use Rattle.monomials.specs.Mono.{Monomial, unit, variable}
 use Rattle.polys.specs.declared.term.Term.{Term}
 use Rattle.polys.specs.Terms.{normal, add, sub, mul, power, degree_of}
 use Rattle.problem.specs.Letters.{place}
-use Rattle.singular_text.specs.Expressions.{Expression, Letter, Number, Parentheses, Run, Power, Product, Signed, Sum}
-
--- the number that these digits continue, where n stands before them
-abbrev pub number_after : ℕ → List ℕ → ℕ
-number_after n [] = n
-number_after n (d ∷ digits) = number_after (n * 10 + (d - 48)) digits
-
--- the number that these decimal digits write
-abbrev pub number : List ℕ → ℕ
-number digits = number_after 0 digits
+use Rattle.problem.specs.declared.limits.TheConstants.{MAX_TERMS, MAX_DEGREE}
+use Rattle.poly_text.specs.Digits.{number}
+use Rattle.poly_text.specs.Raising.{raised}
+use Rattle.problem_form.specs.Expressions.{Expression, Letter, Number, Parentheses, Run, Power, Product, Signed, Sum}
 
 -- the digits at the front
 abbrev pub front_digits : List ℕ → List ℕ
@@ -29,10 +23,6 @@ number_or_one (d ∷ digits) = number (d ∷ digits)
 -- the number at the front
 abbrev pub front_number : List ℕ → ℕ
 front_number word = number_or_one (front_digits word)
-
--- the monomial with the exponent of the variable v raised by e
-abbrev pub raised : Monomial → ℕ → ℕ → Monomial
-raised m v e = record { exponents = slice_set m.exponents v (slice_index m.exponents v + e); component = m.component }
 
 -- the monomial m times the letters of a run, each with the number behind it as its exponent
 unfoldable pub run_after : List ℕ → Monomial → List ℕ → Monomial
@@ -78,4 +68,4 @@ subexpressions (Sum earlier is_negative term) = Sum earlier is_negative term ∷
 
 -- at most 2,000 terms, of degree at most 60; the degree of 0 counts as 0
 abbrev pub is_small : List Term → Bool
-is_small f = nat_le (length f) 2000 && nat_le (degree_of f) 60
+is_small f = nat_le (length f) MAX_TERMS && nat_le (degree_of f) MAX_DEGREE

@@ -4,23 +4,25 @@ ghost use Rattle.std.specs.List.{AllByRecursion};
 ghost use Rattle.monomials.specs.Mono.{unit, variable, total_degree, IsMono};
 ghost use Rattle.polys.specs.Terms.{degree_of, IsAffine};
 ghost use Rattle.polys.specs.Poly.{power_of, product_of, sum_of, difference_of};
-ghost use Rattle.singular_text.specs.Tokens.{tokens};
-ghost use Rattle.singular_text.specs.Words.{class_of, is_run, IsLetterOf};
+ghost use Rattle.problem_form.specs.Tokens.{tokens};
+ghost use Rattle.problem_form.specs.Words.{class_of, is_run, IsLetterOf};
 ghost use Rattle.problem.specs.Letters.{is_among, place};
-ghost use Rattle.singular_text.specs.Values.{number, front_number, run_monomial, term_of, is_small};
+ghost use Rattle.poly_text.specs.Digits.{number};
+ghost use Rattle.problem.specs.declared.limits.TheConstants.{MAX_DEGREE};
+ghost use Rattle.singular_text.specs.Values.{front_number, run_monomial, term_of, is_small};
 ghost use Rattle.singular_text.specs.Evaluating.{IsFault, Agrees, AgreesStep, IsFitFrame, checked, zero_poly, term_with, last_term, sum_with, close, new_frame, signed_frame, with_factor, star, sign_step, constant, variable_token, run_value, power_value, number_step, inner_step, step, evaluate};
 ghost use Rattle.problem.specs.Problem.{IsFit};
 
 use crate::faults::{ReadFault, Which};
-use crate::tokens::next_token;
-use crate::values::{digit_value, front_modulo, number_modulo, number_up_to, run_monomial};
-use crate::words::{Class, class_of};
+use crate::values::{front_modulo, number_modulo, number_up_to, run_monomial};
 use lists::List;
 use monomials::Mono;
+use poly_text::digit_value;
 use polys::{Poly, Term, degrees_are_bounded, leads_multiply, polynomials_are_a_ring};
 use prime_field::Prime;
 use problem::limits::{MAX_DEGREE, MAX_TERMS};
 use problem::{Letters, place};
+use problem_form::{Class, class_of, next_token};
 use std::alloc::Global;
 
 /// What was read of an expression since the last open parenthesis.
@@ -92,7 +94,7 @@ impl Frame {
 // The value, where it is small enough.
 fn checked(f: Poly) -> Result<Poly, ReadFault>
     ensures exact { result ≡ checked f }
-    ensures degree { IfOk result (λ r. (r ≡ f) × (degree_of r.terms ≤ 60)) }
+    ensures degree { IfOk result (λ r. (r ≡ f) × (degree_of r.terms ≤ MAX_DEGREE)) }
 {
     if f.terms().len() > MAX_TERMS || f.degree() > MAX_DEGREE {
         return Err(ReadFault::Limit(Which::Size));
@@ -128,7 +130,7 @@ impl Ground {
         let [letter] = token else {
             return Err(ReadFault::Syntax);
         };
-        self.prime.get();
+        let _prime = self.prime.get();
         let v = place(self.letters.as_slice(), *letter);
         self.term_of(1, Mono::var(v as u32))
     }
@@ -162,7 +164,7 @@ impl Ground {
         ensures exact { Agrees (λ f. f) result (Ok (power_of base.now (number digits.now))) }
         ensures fit { IfOk result (IsFit self.now.prime (length self.now.letters)) }
     {
-        self.prime.get();
+        let _prime = self.prime.get();
         polynomials_are_a_ring();
         degrees_are_bounded();
         let mut power = base.power(0)?;
@@ -183,7 +185,7 @@ impl Ground {
         if degree == 0 {
             return checked(self.constant_power(base, digits)?);
         }
-        self.prime.get();
+        let _prime = self.prime.get();
         polynomials_are_a_ring();
         leads_multiply();
         let n = number_up_to(MAX_DEGREE + 1, digits);
@@ -199,7 +201,7 @@ impl Ground {
         ensures exact { Agrees (λ f. f) result (checked (product_of f.now g.now)) }
         ensures fit { IfOk result (IsFit self.now.prime (length self.now.letters)) }
     {
-        self.prime.get();
+        let _prime = self.prime.get();
         polynomials_are_a_ring();
         checked(f.mul(g)?)
     }
@@ -210,7 +212,7 @@ impl Ground {
         ensures exact { Agrees (λ f. f) result (checked (sum_of f.now g.now)) }
         ensures fit { IfOk result (IsFit self.now.prime (length self.now.letters)) }
     {
-        self.prime.get();
+        let _prime = self.prime.get();
         polynomials_are_a_ring();
         checked(f.add(g)?)
     }
@@ -221,7 +223,7 @@ impl Ground {
         ensures exact { Agrees (λ f. f) result (checked (difference_of f.now g.now)) }
         ensures fit { IfOk result (IsFit self.now.prime (length self.now.letters)) }
     {
-        self.prime.get();
+        let _prime = self.prime.get();
         polynomials_are_a_ring();
         checked(f.sub(g)?)
     }

@@ -50,25 +50,3 @@ impl From<NoMemory> for ReadFault {
         ReadFault::Memory
     }
 }
-
-/// Why no polynomial was read.
-#[derive(Clone, Copy, Debug, Drop, PartialEq, Eq, Error)]
-pub enum PolyFault {
-    /// The bytes are the text of no polynomial over the letters with degree at most 60,000.
-    #[error("no polynomial")]
-    NotPoly,
-    /// No memory was to be had.
-    #[error("no memory")]
-    Memory,
-}
-
-impl From<NoMemory> for PolyFault {
-    ghost use Rattle.std.specs.Prelude.{◌≡◌};
-    ghost use Rattle.singular_text.specs.declared.faults.PolyFault.TheVariants.{Memory};
-
-    ghost from_gives = { λ _ e. e ≡ Memory };
-
-    fn from(_: NoMemory) -> PolyFault {
-        PolyFault::Memory
-    }
-}

@@ -1,5 +1,5 @@
 // The law of texts, as the contract of a function that does nothing.
-ghost use Rattle.singular_text.specs.ProblemText.{TextsStateProblems};
+ghost use Rattle.singular_text.specs.Meanings.{TextsStateProblems};
 
 use polys::polynomials_are_a_ring;
 use prime_field::characteristics_are_prime;

@@ -3,29 +3,28 @@ ghost use Rattle.std.specs.Prelude.{◌≡◌, ◌<◌, [], drop, length, nat_lt
 ghost use Rattle.std.specs.List.{AllByRecursion};
 ghost use Rattle.prime_field.specs.Primes.{IsCharacteristic};
 ghost use Rattle.singular_text.specs.declared.faults.ReadFault.TheVariants.{Syntax, Characteristic, Limit};
-ghost use Rattle.singular_text.specs.Tokens.{tokens};
-ghost use Rattle.singular_text.specs.Values.{number};
-ghost use Rattle.singular_text.specs.Reading.{Gives};
+ghost use Rattle.problem_form.specs.Tokens.{tokens};
+ghost use Rattle.poly_text.specs.Digits.{number};
 ghost use Rattle.singular_text.specs.Evaluating.{Agrees};
 ghost use Rattle.problem.specs.Problem.{IsFit, IsFitProblem, IsProblem, problem_data};
-ghost use Rattle.singular_text.specs.ProblemText.{ProblemText, IsTextOf, HasText, IsOfText, Answers};
-ghost use Rattle.singular_text.specs.Forms.{HasFitPolys, IsForm, AreRingLetters, statements_at, fault_of, count_fault, denominator_at, points_at, problem_at, problem_by};
+ghost use Rattle.problem_form.specs.ProblemText.{ProblemText, IsTextOf, HasText};
+ghost use Rattle.singular_text.specs.Meanings.{IsOfText, Answers};
+ghost use Rattle.singular_text.specs.Checks.{HasFitPolys, fault_of, count_fault, denominator_at, points_at, problem_at, problem_by};
+ghost use Rattle.problem_form.specs.Forms.{AreRingLetters};
 
 use crate::evaluation::Ground;
 use crate::faults::{ReadFault, Which};
 use crate::laws::texts_state_problems;
-use crate::ring::{begun_at, ring_at};
-use crate::scanning::{Place, Scan, scan_statements};
-use crate::tokens::next_token;
 use crate::values::number_up_to;
-use lists::{List, NoMemory};
+use lists::List;
 use polys::Poly;
 use prime_field::Prime;
 use problem::limits::{
     MAX_DIGITS, MAX_GENERATORS, MAX_NESTING, MAX_POINT_POLYNOMIALS, MAX_STATEMENTS,
     NO_CHARACTERISTIC,
 };
-use problem::{Letters, Problem, are_distinct_letters};
+use problem::{Letters, Problem};
+use problem_form::{Form, Scan, begun_at, form_of, next_token};
 use std::alloc::Global;
 
 // The prime, where it is in the table; all its numbers have at most five digits.
@@ -67,7 +66,7 @@ fn behind_token(text: &[u8]) -> &[u8]
 }
 
 // The value of a denominator, if its statement stands here, and the text behind it.
-#[tactic(auto, unfolding(crate::specs::Forms::denominator_at))]
+#[tactic(auto, unfolding(crate::specs::Checks::denominator_at))]
 fn denominator<'a>(ground: &Ground, text: &'a [u8]) -> Result<(Option<Poly>, &'a [u8]), ReadFault>
     ensures exact { Agrees (λ r. (r.0, tokens r.1.now)) result (denominator_at ground.now.prime ground.now.letters (tokens text.now)) }
     ensures fit { IfOk result (λ r. IfSome r.0 (IsFit ground.now.prime (length ground.now.letters))) }
@@ -95,7 +94,7 @@ fn points(ground: &Ground, count: usize, text: &[u8]) -> Result<List<List<Poly>>
 }
 
 // The problem of statements that have their form and are within their limits.
-#[tactic(auto, unfolding(crate::specs::Forms::problem_at))]
+#[tactic(auto, unfolding(crate::specs::Checks::problem_at))]
 fn evaluate(ground: Ground, count: usize, text: &[u8]) -> Result<Problem, ReadFault>
     ensures exact { Agrees (λ r. r) result (problem_at ground.prime ground.letters count (tokens text.now)) }
     ensures fit { IfOk result HasFitPolys }
@@ -117,53 +116,8 @@ fn evaluate(ground: Ground, count: usize, text: &[u8]) -> Result<Problem, ReadFa
     })
 }
 
-// The counts of the statements behind the ring, and their text behind `ideal`, its name and `=`.
-#[tactic(auto, unfolding(crate::specs::Forms::statements_at))]
-fn statements<'a>(letters: &[u8], text: &'a [u8]) -> Option<(Scan, &'a [u8])>
-    ensures { Gives (λ r. (r.0, tokens r.1.now)) result (statements_at letters.now (tokens text.now)) }
-{
-    let rest = begun_at(text, b"ideal")?;
-    let scan = scan_statements(letters, rest)?;
-    if scan.place != Place::Between {
-        return None;
-    }
-    Some((scan, rest))
-}
-
-/// A text of the form that the grammar gives: the digits of the characteristic, the letters of the ring, the counts of
-/// the other statements, and these statements behind `ideal`, its name and `=`.
-#[derive(Debug, Drop)]
-struct Form<'a> {
-    characteristic: &'a [u8],
-    letters: List<u8>,
-    scan: Scan,
-    text: &'a [u8],
-}
-
-// The form of a text, or `None` where it is not of the grammar.
-fn form_of(alloc: Global, bytes: &[u8]) -> Result<Option<Form>, NoMemory>
-    ensures form { IfOk result (λ found. MatchOption found (HasText bytes.now → ⊥) (λ f. IsForm bytes.now f.characteristic.now f.letters f.scan (tokens f.text.now))) }
-    ensures letters { IfOk result (λ found. IfSome found (λ f. AreRingLetters f.letters)) }
-{
-    let Some(ring) = ring_at(alloc, bytes)? else {
-        return Ok(None);
-    };
-    if !are_distinct_letters(ring.letters.as_slice()) {
-        return Ok(None);
-    }
-    let Some((scan, text)) = statements(ring.letters.as_slice(), ring.rest) else {
-        return Ok(None);
-    };
-    Ok(Some(Form {
-        characteristic: ring.characteristic,
-        letters: ring.letters,
-        scan,
-        text,
-    }))
-}
-
 // The problem of a text of this form, after the checks in their order.
-#[tactic(auto, unfolding(crate::specs::Forms::problem_by))]
+#[tactic(auto, unfolding(crate::specs::Checks::problem_by))]
 fn checked_problem(alloc: Global, form: &Form) -> Result<Problem, ReadFault>
     requires { AreRingLetters form.now.letters }
     ensures exact { Agrees (λ r. r) result (problem_by form.now.characteristic.now form.now.letters form.now.scan (tokens form.now.text.now)) }
@@ -185,7 +139,7 @@ fn checked_problem(alloc: Global, form: &Form) -> Result<Problem, ReadFault>
 /// The problem that the bytes state in a small part of Singular's language: a ring, an ideal, a denominator or none,
 /// and `at` statements. `Syntax` exactly where the bytes are not of the grammar; then the checks are made over the
 /// whole text one after the other, in this order: `Characteristic`, and the limits of `Which` as they are listed.
-/// `Memory` where no memory was to be had.
+/// `Memory` where memory ran out.
 pub fn read_problem(alloc: Global, bytes: &[u8]) -> Result<Problem, ReadFault>
     ensures syntax { result ≡ Err Syntax → HasText bytes.now → ⊥ }
     ensures spelled { IsOfText result → HasText bytes.now }

@@ -2,21 +2,17 @@
 ghost use Rattle.std.specs.Prelude.{◌≡◌, ◌≤◌, ◌<◌, ◌+◌, ◌*◌, ◌-◌, ◌%◌, min, length, take, true, ◌∷◌, IfSome, MatchOption};
 ghost use Rattle.monomials.specs.Mono.{unit, total_degree, IsMono};
 ghost use Rattle.problem.specs.Letters.{is_among, place};
-ghost use Rattle.singular_text.specs.Words.{are_run_bytes};
-ghost use Rattle.singular_text.specs.Values.{number, front_digits, front_number, raised, run_after, run_monomial};
+ghost use Rattle.problem_form.specs.Words.{are_run_bytes};
+ghost use Rattle.poly_text.specs.Digits.{number};
+ghost use Rattle.problem.specs.declared.limits.TheConstants.{MAX_DEGREE};
+ghost use Rattle.singular_text.specs.Values.{front_digits, front_number, run_after, run_monomial};
+ghost use Rattle.poly_text.specs.Raising.{raised};
 
 use monomials::Mono;
+use poly_text::{digit_value, raised};
 use prime_field::Prime;
 use problem::limits::MAX_DEGREE;
 use problem::place;
-
-/// The value of a digit.
-pub fn digit_value(digit: u8) -> u32
-    ensures exact { result ≡ digit - 48 }
-    ensures small { result ≤ 207 }
-{
-    u32::from(digit.saturating_sub(b'0'))
-}
 
 /// The number of these digits modulo p.
 pub fn number_modulo(prime: Prime, digits: &[u8]) -> u32
@@ -56,42 +52,14 @@ pub fn digits_at_front(word: &[u8]) -> usize
     word.len()
 }
 
-// The power `e` of the variable `v`, by about log e products.
-fn variable_power(v: u32, e: u32) -> Mono
-    requires variable { v < 6 }
-    requires room { e ≤ 60000 }
-    ensures value { result ≡ raised unit v e }
-    ensures degree { total_degree result.exponents ≡ e }
-{
-    if e == 0 {
-        return Mono::one();
-    }
-    let half = variable_power(v, e / 2);
-    let square = Mono::product(&half, &half);
-    if e.is_multiple_of(2) {
-        return square;
-    }
-    Mono::product(&square, &Mono::var(v))
-}
-
-/// The monomial with the exponent of the variable `v` raised by `e`.
-pub fn raised(mono: Mono, v: u32, e: u32) -> Mono
-    requires variable { v < 6 }
-    requires room { total_degree mono.exponents + e ≤ 60000 }
-    requires known { IsMono mono }
-    ensures { result ≡ raised mono v e }
-{
-    Mono::product(&mono, &variable_power(v, e))
-}
-
 // The monomial with a letter of a run raised by the number behind it, or `None` where the degree is above 60.
 fn with_letter(letters: &[u8], mono: Mono, letter: u8, behind: &[u8]) -> Option<Mono>
     requires few { length letters.now ≤ 6 }
     requires among { is_among letters.now letter ≡ true }
     requires known { IsMono mono }
-    requires small { total_degree mono.exponents ≤ 60 }
-    ensures exact { MatchOption result (60 < total_degree mono.exponents + front_number behind.now) (λ m. m ≡ raised mono (place letters.now letter) (front_number behind.now)) }
-    ensures known { IfSome result (λ m. IsMono m × (total_degree m.exponents ≤ 60)) }
+    requires small { total_degree mono.exponents ≤ MAX_DEGREE }
+    ensures exact { MatchOption result (MAX_DEGREE < total_degree mono.exponents + front_number behind.now) (λ m. m ≡ raised mono (place letters.now letter) (front_number behind.now)) }
+    ensures known { IfSome result (λ m. IsMono m × (total_degree m.exponents ≤ MAX_DEGREE)) }
 {
     let e = exponent_at(behind);
     if mono.degree() + e > MAX_DEGREE {
@@ -105,9 +73,9 @@ fn with_byte(letters: &[u8], mono: Mono, byte: u8, behind: &[u8]) -> Option<Mono
     requires few { length letters.now ≤ 6 }
     requires bytes { are_run_bytes letters.now (byte ∷ behind.now) ≡ true }
     requires known { IsMono mono }
-    requires small { total_degree mono.exponents ≤ 60 }
-    ensures exact { MatchOption result (60 < total_degree (run_after letters.now mono (byte ∷ behind.now)).exponents) (λ m. run_after letters.now m behind.now ≡ run_after letters.now mono (byte ∷ behind.now)) }
-    ensures known { IfSome result (λ m. IsMono m × (total_degree m.exponents ≤ 60)) }
+    requires small { total_degree mono.exponents ≤ MAX_DEGREE }
+    ensures exact { MatchOption result (MAX_DEGREE < total_degree (run_after letters.now mono (byte ∷ behind.now)).exponents) (λ m. run_after letters.now m behind.now ≡ run_after letters.now mono (byte ∷ behind.now)) }
+    ensures known { IfSome result (λ m. IsMono m × (total_degree m.exponents ≤ MAX_DEGREE)) }
 {
     if byte.is_ascii_digit() {
         return Some(mono);
@@ -119,8 +87,8 @@ fn with_byte(letters: &[u8], mono: Mono, byte: u8, behind: &[u8]) -> Option<Mono
 pub fn run_monomial(letters: &[u8], word: &[u8]) -> Option<Mono>
     requires few { length letters.now ≤ 6 }
     requires bytes { are_run_bytes letters.now word.now ≡ true }
-    ensures exact { MatchOption result (60 < total_degree (run_monomial letters.now word.now).exponents) (λ m. m ≡ run_monomial letters.now word.now) }
-    ensures known { IfSome result (λ m. IsMono m × (total_degree m.exponents ≤ 60)) }
+    ensures exact { MatchOption result (MAX_DEGREE < total_degree (run_monomial letters.now word.now).exponents) (λ m. m ≡ run_monomial letters.now word.now) }
+    ensures known { IfSome result (λ m. IsMono m × (total_degree m.exponents ≤ MAX_DEGREE)) }
 {
     let mut mono = Mono::one();
     for (i, byte) in word.iter().enumerate() {
@@ -131,7 +99,7 @@ pub fn run_monomial(letters: &[u8], word: &[u8]) -> Option<Mono>
 
 // The number at the front, which is 1 where no digit stands there, or 61 where it is greater.
 fn exponent_at(word: &[u8]) -> u32
-    ensures { result ≡ min (front_number word.now) 61 }
+    ensures { result ≡ min (front_number word.now) (MAX_DEGREE + 1) }
 {
     let count = digits_at_front(word);
     if count == 0 {

@@ -3,6 +3,7 @@ use Rattle.std.proofs.Common.{◌≡◌, ◌≢◌, ℕ, ◌<◌, ◌≤◌, zer
 use Rattle.monomials.specs.Mono.{Monomial, Divides}
 use Rattle.polys.specs.Terms.{OnlyFirst, IsAffine}
 use Rattle.standard_monomials.specs.Standard.{variable_power}
+use Rattle.polys.proofs.Affine.{only_zeros}
 
 pub length_power : (k v e : ℕ) → length {A = ℕ} (set (replicate k 0) v e) ≡ k
 length_power zero v e = refl
@@ -12,11 +13,6 @@ length_power (suc k) zero e = ap suc (length_zeros k)
     length_zeros zero = refl
     length_zeros (suc k) = ap suc (length_zeros k)
 length_power (suc k) (suc v) e = ap suc (length_power k v e)
-
-pub only_zeros : (n k : ℕ) → OnlyFirst n (replicate k 0)
-only_zeros n zero = tt
-only_zeros zero (suc k) = (refl, only_zeros zero k)
-only_zeros (suc n) (suc k) = only_zeros n k
 
 only_power : (n k v e : ℕ) → v < n → OnlyFirst n (set (replicate k 0) v e)
 only_power zero k v e h = absurd (omega arith)

@@ -10,7 +10,7 @@ use Rattle.polys.specs.Terms.{EachMono, IsPoly, IsMonic, normal, add, sub, mul, 
 use Rattle.polys.specs.Ideal.{InIdeal}
 use Rattle.polys.proofs.Affine.{constant, mul_constant, poly_none, poly_add, poly_sub, poly_mul, sevens_of}
 use Rattle.polys.proofs.Each.{every_add, every_multiple}
-use Rattle.polys.proofs.Ideals.{in_none, in_add, in_sub, in_mul, in_poly}
+use Rattle.ideal_laws.proofs.Ideals.{in_none, in_add, in_sub, in_mul, in_poly}
 use Rattle.polys.proofs.Leads.{Seven}
 use Rattle.polys.proofs.Sums.{add_assoc, add_comm, mul_normal_right}
 use Rattle.polys.proofs.Units.{add_none}
@@ -20,7 +20,7 @@ use Rattle.graded_modules.specs.Module.{IsLeadMultiple}
 use Rattle.homogenising.proofs.Descent.{Step, descent}
 use Rattle.homogenising.proofs.Found.{search_lead}
 use Rattle.homogenising.proofs.Spanning.{pos, Low, cancel}
-use Rattle.polys.proofs.Differences.{sub_cons, sub_add, less_difference as taken}
+use Rattle.ideal_laws.proofs.Differences.{sub_cons, sub_add, less_difference as taken}
 use Rattle.standard_monomials.specs.Standard.{IsStandardBasis, IsStandard, IsRemainder}
 use Rattle.standard_monomials.specs.Laws.{RemaindersAreUnique}
 

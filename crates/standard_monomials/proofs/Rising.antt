@@ -9,16 +9,10 @@ use Rattle.std.specs.List.Sorted.{IsNonDecreasingBy, IsPartitionPoint}
 use Rattle.std.proofs.lemmas.List.Sorted.{searchable_from_sorted, IsPermutation-insert, IsPermutation-sym, Contains-permutation}
 use Rattle.std.proofs.lemmas.List.Edits.{length-insert, get_or-insert_below, get_or-insert_at, get_or-insert_above}
 use Rattle.monomials.specs.Mono.{Monomial, cmp_dp}
-use Rattle.monomials.proofs.Order.{dp_total, same_dp, self_dp}
-use Rattle.polys.proofs.Unique.{contains_cases, contains_head, contains_tail}
+use Rattle.monomials.proofs.Order.{dp_total, same_dp, self_dp, turn_up, turn_down}
+use Rattle.ideal_laws.proofs.Unique.{contains_cases, contains_head, contains_tail}
 use Rattle.standard_monomials.specs.Standard.{AreDistinct, IsRising}
 use Rattle.standard_monomials.specs.Finding.{Gains}
-
-pub turned : (m w : Monomial) → cmp_dp m w ≡ Less → cmp_dp w m ≡ Greater
-turned m w e = dp_total.antisymm w m ∙ ap ordering_reverse e
-
-pub turned_back : (m w : Monomial) → cmp_dp m w ≡ Greater → cmp_dp w m ≡ Less
-turned_back m w e = dp_total.antisymm w m ∙ ap ordering_reverse e
 
 -- what is no greater than m is less than what m is less than
 pub under : (a m w : Monomial) → cmp_dp a m ≢ Greater → cmp_dp m w ≡ Less → cmp_dp a w ≡ Less
@@ -38,7 +32,7 @@ rising_distinct ms r i j d a b = differ (get_or ms i d) (get_or ms j d) (r i j d
 pub searchable : (ms : List Monomial) (m : Monomial) → IsRising ms → IsNonDecreasingBy (λ y. ordering_index (cmp_dp y m)) ms
 searchable ms m r =
     searchable_from_sorted dp_total (λ x. x) ms m
-    (λ k d low high. ap is_lt (turned (get_or ms k d) (get_or ms (k + 1) d) (r k (k + 1) d (omega arith) (omega arith))))
+    (λ k d low high. ap is_lt (turn_up (get_or ms k d) (get_or ms (k + 1) d) (r k (k + 1) d (omega arith) (omega arith))))
 
 module _ (ms : List Monomial) (i : ℕ) (m : Monomial) (l : i ≤ length ms) (p : IsPartitionPoint (λ y. cmp_dp y m ≡ Less) (λ y. cmp_dp y m ≡ Greater) ms i) where
   -- what stands at k after the insertion
@@ -78,7 +72,7 @@ module _ (ms : List Monomial) (i : ℕ) (m : Monomial) (l : i ≤ length ms) (p 
       go (inr (inl x)) (inr (inl y)) = absurd (let q = y.0 in let s = x.0 in omega arith)
       go (inr (inl x)) (inr (inr y)) =
           both (get_or (insert ms i m) a d) (get_or (insert ms i m) b d) m (get_or ms (b - 1) d) x.1 y.1
-          (turned_back (get_or ms (b - 1) d) m (p.1 (b - 1) d (let q = y.0 in let z = last in omega arith) (let q = y.0 in let z = last in omega arith)))
+          (turn_down (get_or ms (b - 1) d) m (p.1 (b - 1) d (let q = y.0 in let z = last in omega arith) (let q = y.0 in let z = last in omega arith)))
       go (inr (inr x)) (inl y) = absurd (let q = y.0 in let s = x.0 in omega arith)
       go (inr (inr x)) (inr (inl y)) = absurd (let q = y.0 in let s = x.0 in omega arith)
       go (inr (inr x)) (inr (inr y)) =

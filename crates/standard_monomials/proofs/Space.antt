@@ -15,46 +15,16 @@ use Rattle.polys.specs.Terms.{IsPoly, keep, add, sub, mul, products}
 use Rattle.polys.specs.Ideal.{InIdeal, number_combination, Spans}
 use Rattle.polys.specs.Ring.{Member}
 use Rattle.polys.proofs.Affine.{constant, poly_constant, mul_constant, sevens_of}
-use Rattle.polys.proofs.Ideals.{in_none, in_add, in_mul}
+use Rattle.ideal_laws.proofs.Ideals.{in_none, in_add, in_mul}
 use Rattle.polys.proofs.Instance.{polynomials}
 use Rattle.polys.proofs.Sums.{add_normal_left, add_normal_right, mul_normal_left, mul_normal_right}
-use Rattle.polys.proofs.Unique.{contains_head, contains_tail, contains_cases, contains_none}
+use Rattle.ideal_laws.proofs.Unique.{contains_head, contains_tail, contains_cases, contains_none}
 use Rattle.polys.proofs.Weights.{Alike, weigh, normal_ext}
 use Rattle.homogenising.proofs.Spanning.{pos, two}
-
--- ---- residues as constant polynomials
-
-abbrev at_unit : ℕ → Term
-at_unit c = record { coeff = c; mono = unit }
-
-sum_alike : (p : ℕ) → 0 < p → (x y : ℕ) → Alike p (at_unit ((x + y) % p) ∷ []) (at_unit x ∷ at_unit y ∷ [])
-unfolding weigh
-sum_alike p h x y χ = mod_ring p h (x ∷ y ∷ χ unit ∷ []) _ _ (search mod_quote depth 20) tt
-
-product_alike : (p : ℕ) → 0 < p → (x y : ℕ) → Alike p (at_unit ((x * y) % p) ∷ []) (products (at_unit x ∷ []) (at_unit y ∷ []))
-unfolding weigh
-product_alike p h x y χ = mod_ring p h (x ∷ y ∷ χ unit ∷ []) _ _ (search mod_quote depth 20) tt
-
-constant_sum : (p : ℕ) → 0 < p → (x y : ℕ) → constant p ((x + y) % p) ≡ add p (constant p x) (constant p y)
-constant_sum p h x y =
-    normal_ext p (at_unit ((x + y) % p) ∷ []) (at_unit x ∷ at_unit y ∷ []) (sum_alike p h x y)
-    ∙ sym (add_normal_left p (at_unit x ∷ []) (constant p y) ∙ add_normal_right p (at_unit x ∷ []) (at_unit y ∷ []))
-
-constant_product : (p : ℕ) → 0 < p → (x y : ℕ) → constant p ((x * y) % p) ≡ mul p (constant p x) (constant p y)
-constant_product p h x y =
-    normal_ext p (at_unit ((x * y) % p) ∷ []) (products (at_unit x ∷ []) (at_unit y ∷ [])) (product_alike p h x y)
-    ∙ sym (mul_normal_left p (at_unit x ∷ []) (constant p y) ∙ mul_normal_right p (at_unit x ∷ []) (at_unit y ∷ []))
+use Rattle.ideal_laws.proofs.Constants.{constant_sum, constant_product}
+use Rattle.ideal_laws.proofs.Members.{lift, length-lift}
 
 -- ---- lists of polynomials as lists of members
-
-unfoldable pub lift : (p n : ℕ) (fs : List (List Term)) → All (IsPoly p n) fs → List (Member p n)
-lift p n [] a = []
-lift p n (f ∷ fs) a = record { terms = f; is_poly = All-head (IsPoly p n) f fs a } ∷ lift p n fs (All-tail (IsPoly p n) f fs a)
-
-pub length-lift : (p n : ℕ) (fs : List (List Term)) (a : All (IsPoly p n) fs) → length (lift p n fs a) ≡ length fs
-unfolding lift
-length-lift p n [] a = refl
-length-lift p n (f ∷ fs) a = ap suc (length-lift p n fs (All-tail (IsPoly p n) f fs a))
 
 pub contains_lift : (p n : ℕ) (fs : List (List Term)) (a : All (IsPoly p n) fs) (f : List Term) → Contains fs f → (u : Member p n) × Contains (lift p n fs a) u × (u.terms ≡ f)
 unfolding lift

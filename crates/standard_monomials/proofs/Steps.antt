@@ -9,16 +9,16 @@ use Rattle.std.proofs.lemmas.List.{get_or_default}
 use Rattle.std.proofs.lemmas.List.Elements.{All-weaker, All-contains_itself}
 use Rattle.monomials.specs.Mono.{Monomial, times, unit, variable, total_degree, cmp_dp}
 use Rattle.monomials.proofs.Exponents.{total_degree-plus, total_degree-set, exponent_le}
-use Rattle.monomials.proofs.Order.{same_dp, self_dp, multiple_not_less}
+use Rattle.monomials.proofs.Order.{same_dp, self_dp, multiple_not_less, turn_down}
 use Rattle.polys.specs.declared.term.Term.{Term}
 use Rattle.polys.specs.Terms.{IsAffine}
-use Rattle.polys.proofs.Affine.{affine_times}
-use Rattle.polys.proofs.Unique.{contains_cases, contains_none, contains_head}
+use Rattle.polys.proofs.Affine.{affine_times, only_zeros}
+use Rattle.ideal_laws.proofs.Unique.{contains_cases, contains_none, contains_head}
 use Rattle.graded_modules.specs.Module.{IsLeadMultiple}
 use Rattle.standard_monomials.specs.Standard.{IsStandard, IsRising}
 use Rattle.standard_monomials.specs.Finding.{Gains, IsNext, GainsMultiples}
-use Rattle.standard_monomials.proofs.Powers.{length_power, only_zeros, affine_power}
-use Rattle.standard_monomials.proofs.Rising.{turned_back, under}
+use Rattle.standard_monomials.proofs.Powers.{length_power, affine_power}
+use Rattle.standard_monomials.proofs.Rising.{under}
 use Rattle.standard_monomials.proofs.Search.{found_law}
 
 degree_variable : (v : ℕ) → v < 7 → total_degree (set (replicate 7 0) v 1) ≡ 1
@@ -43,7 +43,7 @@ less_next m v l h = go (cmp_dp m (times m (variable v))) refl
         let q : total_degree m.exponents ≡ total_degree (times m (variable v)).exponents = ap (λ w. total_degree w.exponents) (same_dp m (times m (variable v)) e) in
         let d = degree_next m v h in
         absurd (omega arith)
-    go Greater e = absurd (multiple_not_less m (variable v) (l ∙ sym (length_power 7 v 1)) refl (turned_back m (times m (variable v)) e))
+    go Greater e = absurd (multiple_not_less m (variable v) (l ∙ sym (length_power 7 v 1)) refl (turn_down m (times m (variable v)) e))
 
 -- ---- the multiples of one monomial
 

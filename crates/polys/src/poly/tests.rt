@@ -2,16 +2,16 @@
 ghost use Rattle.std.specs.Prelude.{◌≡◌, IfOk, length};
 
 use super::Poly;
-use crate::{Curve, Term};
+use crate::{Curve, Term, are_same, copied};
 use lists::List;
-use monomials::Mono;
+use monomials::{MAX_DEGREE, Mono};
 use prime_field::Prime;
 use std::alloc::Global;
 use std::test::Fail;
 
 // The product of two monomials, where the degree allows it.
 fn product(a: &Mono, b: &Mono) -> Result<Mono, Fail> {
-    if b.component() != 0 || a.degree() + b.degree() > 60000 {
+    if b.component() != 0 || a.degree() + b.degree() > MAX_DEGREE {
         return Err("the degree is too high".into());
     }
     Ok(Mono::product(a, b))
@@ -89,7 +89,7 @@ fn times_term(f: &Poly, t: Term) -> Result<Poly, Fail> {
 // The power, where the degree allows it.
 fn raised(f: &Poly, n: u32) -> Result<Poly, Fail> {
     match f.degree().checked_mul(n) {
-        Some(degree) if degree <= 60000 && f.is_plain() => Ok(f.power(n)?),
+        Some(degree) if degree <= MAX_DEGREE && f.is_plain() => Ok(f.power(n)?),
         _ => Err("the degree is too high".into()),
     }
 }
@@ -201,5 +201,58 @@ fn same_data(rt: HostRuntime) -> Result<(), Fail> {
         denominator: Poly::zero(alloc, q),
     };
     assert!(rt; curve.same(&curve) && !curve.same(&other));
+    Ok(())
+}
+
+#[test]
+fn affine_and_copied(rt: HostRuntime) -> Result<(), Fail> {
+    let alloc = rt.alloc();
+    let p = Prime::new(7).ok_or("7 is in the table")?;
+    let one = Poly::one(alloc, p)?;
+    assert!(rt; has_terms(&one, [(1, 0, 0)].as_slice()) && one.is_affine());
+    let square = Term {
+        coeff: 1,
+        mono: Mono::one().with_hom(2),
+    };
+    let homogeneous = Poly::from_term(alloc, p, square)?;
+    assert!(rt; !homogeneous.is_affine());
+    let mut list = List::new(alloc);
+    list.push(one)?;
+    list.push(homogeneous)?;
+    let copies = copied(alloc, list.as_slice())?;
+    assert!(rt; are_same(copies.as_slice(), list.as_slice()));
+    assert!(rt; !are_same(copies.as_slice(), &list.as_slice()[1..]));
+    Ok(())
+}
+
+// How many terms the power has, or nothing where it has more than the limit.
+fn terms_within(f: &Poly, n: u32, limit: usize) -> Result<Option<usize>, Fail> {
+    match f.degree().checked_mul(n) {
+        Some(degree) if degree <= MAX_DEGREE && f.is_plain() => match f.power_within(n, limit)? {
+            None => Ok(None),
+            Some(power) => Ok(Some(power.terms().len())),
+        },
+        _ => Err("the degree is too high".into()),
+    }
+}
+
+#[test]
+fn powers_within_limits(rt: HostRuntime) -> Result<(), Fail> {
+    let p = Prime::new(7).ok_or("7 is in the table")?;
+    let f = polynomial(rt.alloc(), p, [(1, 1, 0), (1, 0, 1), (1, 0, 0)].as_slice())?;
+    // (x + y + 1)^7 has 3 terms modulo 7, the 6th power all 28, and the 60th power, of the digits 1, 1 and 4, 3 * 3 * 15.
+    let table = [
+        (7, 3, Some(3)),
+        (7, 2, None),
+        (6, 28, Some(28)),
+        (6, 27, None),
+        (60, 135, Some(135)),
+        (60, 134, None),
+        (0, 1, Some(1)),
+        (0, 0, None),
+    ];
+    for (i, (n, limit, want)) in table.iter().enumerate() {
+        assert!(rt; terms_within(&f, *n, *limit)? == *want, "row {i}");
+    }
     Ok(())
 }

@@ -1,8 +1,9 @@
 use Rattle.std.proofs.Common.{◌≡◌, ◌<◌, ◌+◌, ◌*◌, ◌%◌, ℕ, length, get_or, arith, ap, ◌∙◌}
 use Rattle.std.proofs.lemmas.List.{length-replicate}
 use Rattle.row_space.specs.Sums.{weighted}
-use Rattle.finite_algebra.proofs.Summing.{written_whole, image_is}
+use Rattle.finite_algebra.proofs.Summing.{image_is}
 use Rattle.finite_algebra.proofs.projecting.image.Goals as goal
+use Rattle.row_space.proofs.Written.{written_whole}
 
 pub returns : goal.returns
 returns c =

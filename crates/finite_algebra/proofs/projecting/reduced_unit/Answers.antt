@@ -1,8 +1,8 @@
 use Rattle.std.proofs.Common.{ℕ, List, replicate, set, arith, ap, sym, subst, ◌∙◌}
 use Rattle.row_space.specs.Subspace.{DifferIn}
 use Rattle.finite_algebra.specs.Projections.{IsClass}
-use Rattle.finite_algebra.proofs.Summing.{written_whole}
 use Rattle.finite_algebra.proofs.projecting.reduced_unit.Goals as goal
+use Rattle.row_space.proofs.Written.{written_whole}
 
 pub returns : goal.returns
 returns c =

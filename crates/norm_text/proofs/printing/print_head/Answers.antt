@@ -1,7 +1,7 @@
 use Rattle.std.proofs.Common.{◌++◌, ◌∙◌, ap}
 use Rattle.std.proofs.lemmas.Result.{on_ok_weaker}
 use Rattle.std.specs.Prelude.{codes, decimal}
-use Rattle.singular_text.specs.PolyText.{poly_text}
+use Rattle.poly_text.specs.PolyText.{poly_text}
 use Rattle.norm_text.specs.Answer.{line}
 use Rattle.norm_text.proofs.Pieces.{six}
 use Rattle.norm_text.proofs.printing.print_head.Goals as goal

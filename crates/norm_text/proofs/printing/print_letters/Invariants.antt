@@ -1,6 +1,6 @@
 use Rattle.std.proofs.Common.{◌≡◌, ℕ, List, [], ◌∷◌, ◌++◌, drop}
 use Rattle.std.specs.Prelude.{map, codes}
-use Rattle.singular_text.specs.PolyText.{join}
+use Rattle.poly_text.specs.PolyText.{join}
 use Rattle.norm_text.specs.Joined.{joined_rest}
 use Rattle.norm_text.proofs.printing.print_letters.Given as goal
 

@@ -1,6 +1,6 @@
 use Rattle.std.proofs.Common.{[], ◌++◌, sym, append-nil}
 use Rattle.std.specs.Prelude.{map, codes}
-use Rattle.singular_text.specs.PolyText.{poly_text}
+use Rattle.poly_text.specs.PolyText.{poly_text}
 use Rattle.norm_text.specs.Joined.{separator_part}
 use Rattle.norm_text.proofs.Joins.{joined_rest-first, joined_rest-next, printed-two}
 use Rattle.norm_text.proofs.printing.print_list.Goals as goal

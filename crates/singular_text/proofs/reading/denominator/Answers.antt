@@ -1,5 +1,5 @@
 use Rattle.std.proofs.Common.{length}
-use Rattle.singular_text.specs.Tokens.{tokens}
+use Rattle.problem_form.specs.Tokens.{tokens}
 use Rattle.problem.specs.Problem.{IsFit}
 use Rattle.singular_text.proofs.Statements.{popped, popped_fits, denominator_is}
 use Rattle.singular_text.proofs.reading.denominator.Goals as goal

@@ -1,8 +1,8 @@
 use Rattle.std.proofs.Common.{◌≡◌, ◌-◌, [], length}
 use Rattle.std.specs.List.{AllByRecursion}
-use Rattle.singular_text.specs.Tokens.{tokens}
+use Rattle.problem_form.specs.Tokens.{tokens}
 use Rattle.problem.specs.Problem.{IsFit}
-use Rattle.singular_text.specs.Forms.{points_at}
+use Rattle.singular_text.specs.Checks.{points_at}
 use Rattle.singular_text.proofs.reading.points.Given as goal
 
 abbrev pub invariant-loop : goal.invariant-loop

@@ -1,7 +1,7 @@
 use Rattle.std.proofs.Common.{ℕ, List}
-use Rattle.singular_text.specs.declared.reading.Form.{Form}
-use Rattle.singular_text.specs.Tokens.{tokens}
-use Rattle.singular_text.specs.Forms.{IsForm}
+use Rattle.problem_form.specs.declared.form.Form.{Form}
+use Rattle.problem_form.specs.Tokens.{tokens}
+use Rattle.problem_form.specs.Forms.{IsForm}
 use Rattle.singular_text.proofs.Outcomes.{answers, no_fault_of_syntax, fit_problem, form_at}
 use Rattle.singular_text.proofs.Stating.{read_is_problem}
 use Rattle.singular_text.proofs.reading.read_problem.Goals as goal

@@ -1,5 +1,5 @@
 use Rattle.std.proofs.Common.{◌≡◌, ◌<◌, ◌%◌, drop}
-use Rattle.singular_text.specs.Values.{number, number_after}
+use Rattle.poly_text.specs.Digits.{number, number_after}
 use Rattle.singular_text.proofs.values.number_modulo.Given as goal
 
 abbrev pub invariant-loop-digit : goal.invariant-loop-digit

@@ -1,4 +1,4 @@
-use Rattle.singular_text.proofs.Monomials.{run_all}
+use Rattle.singular_text.proofs.Runs.{run_all}
 use Rattle.singular_text.proofs.values.run_monomial.Goals as goal
 
 pub returns-clause-exact : goal.returns-clause-exact

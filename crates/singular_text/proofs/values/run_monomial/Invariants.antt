@@ -1,6 +1,6 @@
 use Rattle.std.proofs.Common.{◌≡◌, ◌≤◌, drop, true}
 use Rattle.monomials.specs.Mono.{IsMono, total_degree}
-use Rattle.singular_text.specs.Words.{are_run_bytes}
+use Rattle.problem_form.specs.Words.{are_run_bytes}
 use Rattle.singular_text.specs.Values.{run_after, run_monomial}
 use Rattle.singular_text.proofs.values.run_monomial.Given as goal
 

@@ -1,5 +1,5 @@
 use Rattle.std.proofs.Common.{◌∙◌, sym}
-use Rattle.singular_text.proofs.Monomials.{run_digit, either_behind}
+use Rattle.singular_text.proofs.Runs.{run_digit, either_behind}
 use Rattle.singular_text.proofs.values.with_byte.Goals as goal
 
 pub returns-then-is_ascii_digit-clause-exact : goal.returns-then-is_ascii_digit-clause-exact

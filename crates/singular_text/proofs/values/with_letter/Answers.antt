@@ -1,6 +1,6 @@
 use Rattle.std.proofs.Common.{◌<◌, arith}
 use Rattle.problem.specs.Letters.{place}
-use Rattle.singular_text.proofs.Monomials.{letter_place}
+use Rattle.singular_text.proofs.Runs.{letter_place}
 use Rattle.singular_text.proofs.values.with_letter.Goals as goal
 
 pub overflow_cast-place : goal.overflow_cast-place

@@ -18,7 +18,7 @@ pub mul-requires-clause-plain : goal.mul-requires-clause-plain
 mul-requires-clause-plain c =
     let p = c.args.self.now.prime in
     let n = length c.args.self.now.letters in
-    let above : 1 < p = omega (arith, c.get.ensures.range.0, c.get.ensures.value) in
+    let above : 1 < p = omega (arith, c.get-prime.ensures.range.0, c.get-prime.ensures.value) in
     let power : IsPowerOf p n c.args.base.now c.in_ok-power-2.field-0 c.digit_value.result =
     power_of_fit p n c.args.base.now c.in_ok-power-2.field-0 c.digit_value.result (c.polynomials_are_a_ring.ensures.closed p n above) c.degrees_are_bounded.ensures.power c.requires.fit
     c.requires.constant c.in_ok-power-2.ensures in
@@ -28,7 +28,7 @@ pub loop-digit-preserved : goal.loop-digit-preserved
 loop-digit-preserved c =
     let p = c.args.self.now.prime in
     let n = length c.args.self.now.letters in
-    let above : 1 < p = omega (arith, c.get.ensures.range.0, c.get.ensures.value) in
+    let above : 1 < p = omega (arith, c.get-prime.ensures.range.0, c.get-prime.ensures.value) in
     let closed : AreClosed p n = c.polynomials_are_a_ring.ensures.closed p n above in
     let read = c.loop-digit.invariant.read in
     let d = get_or c.args.digits.now c.loop-digit.digit-index 0 - 48 in

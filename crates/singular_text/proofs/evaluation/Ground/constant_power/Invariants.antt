@@ -1,5 +1,5 @@
 use Rattle.std.proofs.Common.{◌≡◌, ℕ, length, drop}
-use Rattle.singular_text.specs.Values.{number, number_after}
+use Rattle.poly_text.specs.Digits.{number, number_after}
 use Rattle.singular_text.proofs.Fits.{IsPowerOf}
 use Rattle.singular_text.proofs.evaluation.Ground.constant_power.Given as goal
 

@@ -1,5 +1,5 @@
 use Rattle.std.proofs.Common.{◌∙◌, sym}
-use Rattle.singular_text.proofs.Classes.{class_variable, class_run}
+use Rattle.problem_form.proofs.Classes.{class_variable, class_run}
 use Rattle.singular_text.proofs.evaluation.Ground.inner_step.Goals as goal
 
 pub variable-requires : goal.variable-requires

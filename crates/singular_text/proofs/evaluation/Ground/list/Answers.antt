@@ -1,7 +1,7 @@
 use Rattle.std.proofs.Common.{◌∙◌, ap, sym, subst, refl, List, length, [], Ok, rules}
 use Rattle.polys.specs.Poly.{Polynomial}
-use Rattle.singular_text.specs.Tokens.{tokens}
-use Rattle.singular_text.specs.declared.words.Class.TheVariants as class
+use Rattle.problem_form.specs.Tokens.{tokens}
+use Rattle.problem_form.specs.declared.words.Class.TheVariants as class
 use Rattle.singular_text.specs.Evaluating.{evaluate, new_frame, IsFault, IsFitFrame}
 use Rattle.singular_text.specs.declared.evaluation.Frame.{Frame}
 use Rattle.singular_text.proofs.Handing.{handed_on}

@@ -1,6 +1,6 @@
 use Rattle.std.proofs.Common.{◌≡◌, length, []}
 use Rattle.std.specs.List.{AllByRecursion}
-use Rattle.singular_text.specs.Tokens.{tokens}
+use Rattle.problem_form.specs.Tokens.{tokens}
 use Rattle.singular_text.specs.Evaluating.{evaluate, new_frame, IsFitFrame}
 use Rattle.problem.specs.Problem.{IsFit}
 use Rattle.singular_text.proofs.evaluation.Ground.list.Given as goal

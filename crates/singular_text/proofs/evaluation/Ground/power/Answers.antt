@@ -7,9 +7,9 @@ pub returns-then-n-degree-gt-MAX_DEGREE-clause-exact : goal.returns-then-n-degre
 returns-then-n-degree-gt-MAX_DEGREE-clause-exact c =
     let p = c.args.self.now.prime in
     let n = length c.args.self.now.letters in
-    let above : 1 < p = omega (arith, c.get.ensures.range.0, c.get.ensures.value) in
+    let above : 1 < p = omega (arith, c.get-prime.ensures.range.0, c.get-prime.ensures.value) in
     let P : ℕ → Type 0 = λ (q : ℕ). IsPrime q in
-    power_large p n c.args.base.now c.args.digits.now c.number_up_to-n.result (subst P c.get.ensures.value c.get.ensures.prime) c.leads_multiply.ensures
+    power_large p n c.args.base.now c.args.digits.now c.number_up_to-n.result (subst P c.get-prime.ensures.value c.get-prime.ensures.prime) c.leads_multiply.ensures
     (c.polynomials_are_a_ring.ensures.closed p n above) c.requires (λ zero. c.if-degree-eq0.false (c.degree-degree.ensures ∙ zero)) c.number_up_to-n.ensures
     (subst (λ (d : ℕ). 60 < c.number_up_to-n.result * d) c.degree-degree.ensures c.if-n-degree-gt-MAX_DEGREE.true)
 
@@ -20,6 +20,6 @@ pub returns-clause-fit : goal.returns-clause-fit
 returns-clause-fit c =
     let p = c.args.self.now.prime in
     let n = length c.args.self.now.letters in
-    let above : 1 < p = omega (arith, c.get.ensures.range.0, c.get.ensures.value) in
+    let above : 1 < p = omega (arith, c.get-prime.ensures.range.0, c.get-prime.ensures.value) in
     checked_fit p n c.checked-2.result c.in_ok-power.field-0 _ c.checked-2.ensures.degree c.in_ok-power.ensures c.requires.prime
     (power_poly p n c.args.base.now c.number_up_to-n.result (c.polynomials_are_a_ring.ensures.closed p n above) c.requires)

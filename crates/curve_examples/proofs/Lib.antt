@@ -1,0 +1,7 @@
+-- for the examples alone
+mod CuspDimension
+mod CuspRings
+mod CuspOrders
+mod CuspPower
+mod CuspNumerators
+mod CuspClosure

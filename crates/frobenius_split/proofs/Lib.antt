@@ -1,0 +1,11 @@
+pub mod Ground
+pub mod Deciding
+pub mod Adding
+pub mod GraphLaws
+pub mod Stages
+pub mod SplitLaws
+pub mod EachLaws
+pub mod PartLaws
+pub mod AllMaximal
+pub mod Relations
+pub mod Worked

@@ -1,0 +1,7 @@
+-- The products are those of an algebra.
+use Rattle.std.proofs.Common.{arith}
+use Rattle.finite_algebra.proofs.Examples.{nine_laws}
+use Rattle.frobenius_split.proofs.tests.field_of_nine.Goals as goal
+
+pub algebra_of-requires : goal.algebra_of-requires
+algebra_of-requires g c = (omega arith, nine_laws)

@@ -1,0 +1,120 @@
+// Rows of elements: copies, units, multiples and the rows that a space gains.
+ghost use Rattle.std.specs.Prelude.{◌≡◌, ℕ, ◌+◌, ◌-◌, ◌%◌, ◌<◌, length, replicate, slice_index, slice_set, All, IfOk, OnOk};
+ghost use Rattle.row_space.specs.Echelon.{IsRow};
+ghost use Rattle.row_space.specs.Subspace.{FitsIn};
+ghost use Rattle.finite_algebra.specs.Elements.{IsElement, times};
+ghost use Rattle.lane_rows.specs.Rows.{AreResidues};
+ghost use Rattle.finite_algebra.specs.Elements.{unit_row as the_unit_row};
+ghost use Rattle.frobenius_split.specs.Parts.{AreProducts, AreLess, Adds};
+
+use finite_algebra::Algebra;
+use lists::{List, NoMemory};
+use prime_field::Prime;
+use row_space::Space;
+use std::alloc::Global;
+
+pub(crate) fn copy_of(alloc: Global, row: &[u32]) -> Result<Vec<u32>, NoMemory>
+    ensures { IfOk result (λ v. v.items ≡ row.now) }
+{
+    Ok(row.to_vec(alloc)?)
+}
+
+pub(crate) fn zero_row(alloc: Global, length: usize) -> Result<Vec<u32>, NoMemory>
+    ensures { IfOk result (λ row. row.items ≡ replicate length 0) }
+{
+    Ok(vec![in alloc; 0u32; length]?)
+}
+
+// The row with 1 at the place k.
+pub(crate) fn unit_row(alloc: Global, length: usize, k: usize) -> Result<Vec<u32>, NoMemory>
+    requires { k < length }
+    ensures { IfOk result (λ row. row.items ≡ the_unit_row length k) }
+{
+    let mut row = zero_row(alloc, length)?;
+    row[k] = 1;
+    Ok(row)
+}
+
+// The product of the basis element k and x.
+fn unit_multiple(alloc: Global, a: &Algebra, k: usize, x: &[u32]) -> Result<Vec<u32>, NoMemory>
+    requires k { k < a.now.dimension }
+    requires x { IsElement a.now x.now }
+    ensures element { IfOk result (λ made. IsElement a.now made.items) }
+    ensures product { IfOk result (λ made. made.items ≡ times a.now (the_unit_row a.now.dimension k) x.now) }
+{
+    let _p = a.prime().get();
+    let unit = unit_row(alloc, a.dimension(), k)?;
+    let mut out = zero_row(alloc, a.dimension())?;
+    a.product(unit.as_slice(), x, out.as_mut_slice());
+    Ok(out)
+}
+
+// The products of the basis elements with x.
+pub(crate) fn multiplication(
+    alloc: Global,
+    a: &Algebra,
+    x: &[u32],
+) -> Result<List<List<u32>>, NoMemory>
+    requires { IsElement a.now x.now }
+    ensures { IfOk result (λ rows. AreProducts a.now x.now rows) }
+{
+    let mut rows = List::new(alloc);
+    for k in 0..a.dimension() {
+        let row = unit_multiple(alloc, a, k, x)?;
+        rows.push(List::of_vec(row))?;
+    }
+    Ok(rows)
+}
+
+// The row with c taken off at the place k.
+fn less_at(
+    alloc: Global,
+    prime: Prime,
+    row: &[u32],
+    k: usize,
+    c: u32,
+) -> Result<List<u32>, NoMemory>
+    requires c { c < prime }
+    requires k { k < length row.now }
+    requires row { AreResidues prime row.now }
+    ensures set { IfOk result (λ made. made ≡ slice_set row.now k ((slice_index row.now k + (prime - c)) % prime)) }
+    ensures residues { IfOk result (λ made. AreResidues prime made) }
+{
+    let mut made = copy_of(alloc, row)?;
+    let entry = prime.sub(made[k], c);
+    made[k] = entry;
+    Ok(List::of_vec(made))
+}
+
+// The matrix with c taken off its diagonal.
+pub(crate) fn less_scalar(
+    alloc: Global,
+    prime: Prime,
+    matrix: &[List<u32>],
+    c: u32,
+) -> Result<List<List<u32>>, NoMemory>
+    requires c { c < prime }
+    requires rows { All (IsRow prime (length matrix.now)) matrix.now }
+    ensures { IfOk result (λ made. AreLess prime c matrix.now made) }
+{
+    let _p = prime.get();
+    let mut rows = List::new(alloc);
+    for k in 0..matrix.len() {
+        let row = less_at(alloc, prime, matrix[k].as_slice(), k, c)?;
+        rows.push(row)?;
+    }
+    Ok(rows)
+}
+
+// Adds the rows to the space.
+pub(crate) fn add_rows(prime: Prime, space: &mut Space, rows: &[List<u32>]) -> Result<(), NoMemory>
+    requires prime { space.old.prime ≡ prime }
+    requires fit { All (FitsIn space.old) rows.now }
+    ensures { OnOk result (Adds space.old rows.now space.new) }
+{
+    let _p = prime.get();
+    for i in 0..rows.len() {
+        let _said = space.insert(rows[i].as_slice())?;
+    }
+    Ok(())
+}

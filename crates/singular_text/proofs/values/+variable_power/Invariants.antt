@@ -1,4 +1,0 @@
-use Rattle.singular_text.proofs.values.+variable_power.Given as goal
-
-abbrev pub decreases-variable_power : goal.decreases-variable_power
-decreases-variable_power l = l.e
