@@ -1,8 +1,6 @@
 // From a problem to its answer.
 ghost use Rattle.std.specs.Prelude.{◌≡◌, ◌≢◌, ◌↔◌, ◌≤◌, ◌⊎◌, ℕ, [], ◌∷◌, All, IfOk, IfErr, IsTrue, false};
-ghost use Rattle.polys.specs.Ideal.{HasDim};
-ghost use Rattle.polys.specs.Terms.{one};
-ghost use Rattle.polys.specs.Poly.{terms_of};
+ghost use Rattle.lift_colon.specs.Lifted.{HasDimension};
 ghost use Rattle.problem.specs.Problem.{IsFitProblem, problem_data};
 ghost use Rattle.norm_text.specs.Answer.{answer_text};
 ghost use Rattle.norm_text.specs.Plain.{plain_answer};
@@ -15,43 +13,27 @@ use crate::refusals::Refusal;
 use jacobian_pick::pick;
 use lift_colon::{Dimension, Lifted};
 use lists::{List, NoMemory};
-use monomials::Mono;
 use norm_text::{Answer, print_answer};
-use polys::{Poly, Term};
-use prime_field::Prime;
+use polys::Poly;
 use singular_text::{Letters, Problem};
 use std::alloc::Global;
 
-// The polynomial 1.
-fn one(alloc: Global, prime: Prime) -> Result<Poly, NoMemory>
-    ensures { IfOk result (λ f. f ≡ record { prime = prime; terms = one }) }
-{
-    let unit = Term {
-        coeff: 1,
-        mono: Mono::one(),
-    };
-    Poly::from_term(alloc, prime, unit)
-}
-
 // Whether nothing is left modulo the ideal and the denominator.
-fn is_nothing_left(alloc: Global, lifted: &Lifted) -> Result<bool, NoMemory>
-    ensures { IfOk result (λ yes. IsTrue yes ↔ HasDim lifted.now.prime lifted.now.variables (lifted.now.denominator.terms ∷ terms_of lifted.now.ideal) 0) }
+fn is_nothing_left(lifted: &Lifted) -> bool
+    ensures { IsTrue result ↔ HasDimension lifted.now 0 }
 {
-    match lifted.dimension(alloc, 0)? {
-        Dimension::Finite(_) => Ok(true),
-        Dimension::Wide | Dimension::Infinite => Ok(false),
+    match lifted.small_dimension() {
+        Dimension::Finite(dimension) => dimension == 0,
+        Dimension::Wide | Dimension::Infinite => false,
     }
 }
 
 // Whether no points are named, and nothing is left modulo the ideal and the denominator.
-fn is_served(alloc: Global, problem: &Problem, lifted: &Lifted) -> Result<bool, NoMemory>
-    ensures yes { IfOk result (λ yes. IsTrue yes → (problem.now.at ≡ []) × HasDim lifted.now.prime lifted.now.variables (lifted.now.denominator.terms ∷ terms_of lifted.now.ideal) 0) }
-    ensures no { IfOk result (λ yes. yes ≡ false → (problem.now.at ≢ []) ⊎ (HasDim lifted.now.prime lifted.now.variables (lifted.now.denominator.terms ∷ terms_of lifted.now.ideal) 0 → ⊥)) }
+fn is_served(problem: &Problem, lifted: &Lifted) -> bool
+    ensures yes { IsTrue result → (problem.now.at ≡ []) × HasDimension lifted.now 0 }
+    ensures no { result ≡ false → (problem.now.at ≢ []) ⊎ (HasDimension lifted.now 0 → ⊥) }
 {
-    if !problem.at.as_slice().is_empty() {
-        return Ok(false);
-    }
-    is_nothing_left(alloc, lifted)
+    problem.at.as_slice().is_empty() && is_nothing_left(lifted)
 }
 
 // The answer to a problem whose denominator leaves nothing.
@@ -70,7 +52,7 @@ fn plain(alloc: Global, problem: Problem, denominator: Poly) -> Result<Answer, N
         at: _,
     } = problem;
     let mut numerators = List::new(alloc);
-    numerators.push(one(alloc, prime)?)?;
+    numerators.push(Poly::one(alloc, prime)?)?;
     Ok(Answer {
         prime,
         letters,
@@ -104,7 +86,7 @@ pub fn solve(alloc: Global, problem: Problem, cap: u32) -> Result<List<u8>, Refu
 {
     let lifted = pick(alloc, &problem, cap)?;
     let _basis = lifted.ideal_basis();
-    if !is_served(alloc, &problem, &lifted)? {
+    if !is_served(&problem, &lifted) {
         return Err(Refusal::NotYet);
     }
     Ok(plain_text(alloc, problem, lifted.denominator())?)

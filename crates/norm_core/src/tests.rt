@@ -149,13 +149,26 @@ fn texts_are_refused(rt: HostRuntime) -> Result<(), Fail> {
 #[test]
 fn words_ask_for_a_cap(rt: HostRuntime) -> Result<(), Fail> {
     let deep = "refused: deep ideal\n";
-    for (words, status, text) in [
-        (["alone", "--degree", "4"].as_slice(), 6, deep),
-        (["alone", "--degree=0004"].as_slice(), 6, deep),
-        (["alone", "--degree", "1000"].as_slice(), 0, TRIVIAL_ANSWER),
-        (["alone"].as_slice(), 0, TRIVIAL_ANSWER),
+    let cusp = "ring r = 7,(x,y),dp; ideal I = y2-x3; poly d = x2+y;";
+    let deep_denominator = "refused: deep denominator\n";
+    for (words, input, status, text) in [
+        (["alone", "--degree", "4"].as_slice(), CUBES, 6, deep),
+        (["alone", "--degree=0004"].as_slice(), CUBES, 6, deep),
+        (
+            ["alone", "--degree", "1000"].as_slice(),
+            CUBES,
+            0,
+            TRIVIAL_ANSWER,
+        ),
+        (["alone"].as_slice(), CUBES, 0, TRIVIAL_ANSWER),
+        (
+            ["alone", "--degree", "3"].as_slice(),
+            cusp,
+            6,
+            deep_denominator,
+        ),
     ] {
-        assert!(rt; gives(rt.alloc(), words, CUBES, status, text)?);
+        assert!(rt; gives(rt.alloc(), words, input, status, text)?);
     }
     Ok(())
 }
@@ -181,7 +194,7 @@ fn other_words_are_refused(rt: HostRuntime) -> Result<(), Fail> {
 }
 
 #[test]
-fn faults_write_nothing_or_a_front(rt: HostRuntime) -> Result<(), Fail> {
+fn faults_write_nothing_or_a_prefix(rt: HostRuntime) -> Result<(), Fail> {
     for (read_fails, write_fails, status, text) in [
         ([].as_slice(), [2].as_slice(), 21, "locnormal 1\nchar"),
         ([].as_slice(), [1].as_slice(), 21, ""),

@@ -21,7 +21,7 @@ returns-then-not-branch-clause-refused c =
       has = record { proper = known.proper; chosen = known.chosen };
       dimension = known.dimension;
     } in
-    inr (not_yet c.in_ok-lifted.lifted.denominator.terms picked.has (unserved-by c.args.problem c.args.cap c.in_ok-lifted.lifted picked (c.in_ok-is_served.ensures.no (cc))) refl refl)
+    inr (not_yet c.in_ok-lifted.lifted.denominator.terms picked.has (unserved-by c.args.problem c.args.cap c.in_ok-lifted.lifted picked (c.is_served.ensures.no (cc))) refl refl)
 
 pub returns-then-not-branch-clause-exact : goal.returns-then-not-branch-clause-exact
 returns-then-not-branch-clause-exact c status text solves =
@@ -34,7 +34,7 @@ returns-then-not-branch-clause-exact c status text solves =
     } in
     inl (unserved-status (problem_data c.args.problem) c.args.cap c.in_ok-lifted.lifted.denominator.terms picked.has
     (λ stop not cause. no_error (known.exact stop not cause)) (λ proper d chosen. known.complete proper d chosen)
-    (unserved-by c.args.problem c.args.cap c.in_ok-lifted.lifted picked (c.in_ok-is_served.ensures.no (cc))) status text solves)
+    (unserved-by c.args.problem c.args.cap c.in_ok-lifted.lifted picked (c.is_served.ensures.no (cc))) status text solves)
 
 pub returns-then-not-branch-clause-complete : goal.returns-then-not-branch-clause-complete
 returns-then-not-branch-clause-complete c d has served =
@@ -48,7 +48,7 @@ returns-then-not-branch-clause-complete c d has served =
     absurd
     (unserved-not_answered (problem_data c.args.problem) c.args.cap c.in_ok-lifted.lifted.denominator.terms picked.has
     (λ stop not cause. no_error (known.exact stop not cause)) (λ proper e chosen. known.complete proper e chosen)
-    (unserved-by c.args.problem c.args.cap c.in_ok-lifted.lifted picked (c.in_ok-is_served.ensures.no (cc))) d has served)
+    (unserved-by c.args.problem c.args.cap c.in_ok-lifted.lifted picked (c.is_served.ensures.no (cc))) d has served)
 
 pub returns-clause-answered : goal.returns-clause-answered
 returns-clause-answered c =
@@ -60,7 +60,7 @@ returns-clause-answered c =
       dimension = known.dimension;
     } in
     plain-solves c.args.problem c.args.cap c.in_ok-lifted.lifted c.in_ok-plain_text.field-0 c.requires.fit picked
-    (served-by c.args.problem c.args.cap c.in_ok-lifted.lifted picked (c.in_ok-is_served.ensures.yes (cc)))
+    (served-by c.args.problem c.args.cap c.in_ok-lifted.lifted picked (c.is_served.ensures.yes (cc)))
     (c.in_ok-plain_text.ensures ∙ ap (λ f. answer_text (plain_answer (problem_data c.args.problem) f.terms)) c.denominator.ensures)
 
 pub returns-clause-exact : goal.returns-clause-exact
@@ -74,4 +74,4 @@ returns-clause-exact c status text solves =
     } in
     inl (served-status (problem_data c.args.problem) c.args.cap c.in_ok-lifted.lifted.denominator.terms picked.has
     (λ stop not cause. no_error (known.exact stop not cause)) (λ proper d chosen. known.complete proper d chosen)
-    (served-by c.args.problem c.args.cap c.in_ok-lifted.lifted picked (c.in_ok-is_served.ensures.yes (cc))) status text solves)
+    (served-by c.args.problem c.args.cap c.in_ok-lifted.lifted picked (c.is_served.ensures.yes (cc))) status text solves)
