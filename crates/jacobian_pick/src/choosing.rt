@@ -127,7 +127,7 @@ fn tried(
     if !lifted.is_regular()? {
         return Err(PickStop::ZeroDivisor);
     }
-    match lifted.dimension(alloc, 256)? {
+    match lifted.small_dimension() {
         Dimension::Finite(_) => Ok(lifted),
         Dimension::Wide => Err(PickStop::Wide),
         Dimension::Infinite => Err(PickStop::Infinite),

@@ -89,11 +89,10 @@ pub fn candidates(alloc: Global, problem: &Problem, basis: &[Poly]) -> Result<Li
     ensures low { IfOk result (λ cs. All (IsUpTo problem.now.prime (length problem.now.letters) 119) cs) }
     ensures exact { IfOk result (λ cs. AreCandidates (problem_data problem.now) (terms_of cs)) }
 {
-    let first = first_list(alloc, problem, basis)?;
-    let second = second_list(alloc, problem, basis, first.as_slice())?;
-    let third = third_list(alloc, problem, basis, first.as_slice())?;
-    let mut all = first.into_vec();
-    all.append(&mut second.into_vec())?;
-    all.append(&mut third.into_vec())?;
-    Ok(List::of_vec(all))
+    let mut all = first_list(alloc, problem, basis)?;
+    let mut second = second_list(alloc, problem, basis, all.as_slice())?;
+    let mut third = third_list(alloc, problem, basis, all.as_slice())?;
+    all.append(&mut second)?;
+    all.append(&mut third)?;
+    Ok(all)
 }

@@ -1,5 +1,5 @@
 -- The bases of the parts of a module are those of the sum and of the colon ideal.
-use Rattle.std.proofs.Common.{◌≡◌, ◌↔◌, ℕ, ◌+◌, ◌*◌, ◌≤◌, ◌<◌, List, [], ◌∷◌, refl, sym, ◌∙◌, subst, arith}
+use Rattle.std.proofs.Common.{◌≡◌, ◌↔◌, ℕ, ◌+◌, ◌*◌, ◌≤◌, ◌<◌, List, [], ◌∷◌, refl, sym, ◌∙◌, subst, arith, get_or}
 use Rattle.std.specs.Prelude.{Result, Ok, Err, IfOk}
 use Rattle.std.specs.List.{All}
 use Rattle.std.proofs.lemmas.List.Elements.{All-nil, All-cons, All-head, All-tail, All-contains}
@@ -11,8 +11,8 @@ use Rattle.polys.specs.Ideal.{InIdeal, combination}
 use Rattle.polys.specs.Poly.{Polynomial, IsPlain, terms_of}
 use Rattle.polys.specs.Reduced.{IsReducedBasis}
 use Rattle.polys.specs.Terms.{EachMono, IsPoly, IsMonic, degree_of, mul}
-use Rattle.polys.proofs.Degrees.{AtMost, degree_le}
-use Rattle.polys.proofs.Each.{every_add, every_mul, every_normal, every_zip}
+use Rattle.polys.proofs.Degrees.{AtMost, degree_le, each_degree}
+use Rattle.polys.proofs.Each.{every_add, every_mul, every_normal, every_zip, every_more}
 use Rattle.ideal_laws.proofs.Ideals.{in_head, in_more, in_generator, in_larger, in_poly}
 use Rattle.graded_modules.specs.Bases.{IsReduced, SpanOneModule}
 use Rattle.graded_modules.specs.Deep.{IsDeep}
@@ -24,9 +24,9 @@ use Rattle.homogenising.specs.Laws.{IsHomogeneousPoly}
 use Rattle.homogenising.proofs.Images.{image, every_image}
 use Rattle.homogenising.proofs.Monomials.{lower, degree_lower}
 use Rattle.denominator_module.specs.Laws.{AreGiven, IsModuleBasis, Generates}
-use Rattle.denominator_module.specs.Module.{module_of, second, sum_members, colon_members, InColon, IsDeepDenominator}
-use Rattle.denominator_module.proofs.Components.{every_second}
-use Rattle.denominator_module.proofs.Firsts.{all_from, lower_all}
+use Rattle.denominator_module.specs.Module.{module_of, second, sum_members, colon_members, InColon, IsDeepDenominator, first}
+use Rattle.denominator_module.proofs.Components.{every_first, plain_first, every_second}
+use Rattle.denominator_module.proofs.Firsts.{all_from, lower_all, firsts_of, sums_are, all_firsts}
 use Rattle.denominator_module.proofs.Pairs.{homogeneous_gs}
 use Rattle.denominator_module.proofs.Seconds.{seconds_of, colons_are, all_seconds}
 use Rattle.denominator_module.proofs.Stated.{parts_law}
@@ -36,6 +36,7 @@ use Rattle.module_division.specs.Ideals.{IsMonicStandardBasis}
 use Rattle.module_basis.specs.Gens.{AreGens, IsHomogeneousOver}
 use Rattle.lift_colon.specs.Lifted.{IsLifted, HasModule}
 use Rattle.lift_colon.proofs.Vectors.{given, polys, all_at}
+use Rattle.standard_monomials.specs.Finding.{HasLowLeads}
 
 -- ---- lists of polynomials of the program
 
@@ -107,45 +108,68 @@ module _ (p n : ℕ) (prime : IsPrime p) (six : n ≤ 6) (generators : List Poly
       standard_by p n (InColon p n (terms_of generators) d.terms) qs (colon_members p (terms_of m.vectors)) a e
       (parts_law.colon p n d.terms (terms_of generators) (terms_of m.vectors) ga mb)
 
-  -- ---- the colon members are low
+  -- ---- the members of the bases are low
 
-  low_second : (b : List Term) → (IsGenerator p n (degree_of d.terms) b × IsMonic b) × (degree_at (degree_of d.terms) (lead_mono b) ≤ 1000) → degree_of (dehomogenised p (second b)) ≤ 1000
-  low_second b h =
-      degree_le 1000 (dehomogenised p (second b))
-      (every_normal (AtMost 1000) p (image lower (second b))
-      (every_image (λ w. (IsGraded n w × IsPlain w) × (total_degree w.exponents ≤ 1000)) (AtMost 1000) lower (second b)
-      (λ w x. (let l = degree_lower n six w x.0.0 x.0.1 in let k = x.1 in omega arith))
-      (every_second (λ w. IsGraded n w × (degree_at (degree_of d.terms) w ≡ h.0.0.homogeneous.0)) (λ w. (IsGraded n w × IsPlain w) × (total_degree w.exponents ≤ 1000)) b
-      (λ w z x. ((record { seven = x.0.seven; first = x.0.first; two = (omega arith) }, refl), under w x.1))
-      (every_zip (IsGraded n) (λ w. degree_at (degree_of d.terms) w ≡ h.0.0.homogeneous.0) b h.0.0.vector.graded h.0.0.homogeneous.1))))
+  abbrev IsLowMember : List Term → Type 0
+  IsLowMember b = (IsGenerator p n (degree_of d.terms) b × IsMonic b) × (degree_at (degree_of d.terms) (lead_mono b) ≤ 1000)
+
+  low_members : All IsLowMember (terms_of m.vectors)
+  low_members = all_from IsLowMember (terms_of m.vectors)
+      (λ b c. (
+        (All-contains (IsGenerator p n (degree_of d.terms)) (terms_of m.vectors) b reduced.vectors c, All-contains IsMonic (terms_of m.vectors) b reduced.monic c),
+        All-contains (λ f. degree_at (degree_of d.terms) (lead_mono f) ≤ 1000) (terms_of m.vectors) b low_at c,
+      ))
+
+  under : (b : List Term) (h : IsLowMember b) (w : Monomial) → degree_at (degree_of d.terms) w ≡ h.0.0.homogeneous.0 → total_degree w.exponents ≤ 1000
+  under b h w e =
+      let t = top b h.0.0 h.0.1 h.1 in
+      let more : total_degree w.exponents ≤ total_degree w.exponents + w.component * degree_of d.terms = omega arith in
+      omega arith
     where
       top : (b : List Term) (k : IsGenerator p n (degree_of d.terms) b) → IsMonic b → degree_at (degree_of d.terms) (lead_mono b) ≤ 1000 → k.homogeneous.0 ≤ 1000
       top [] k m l = absurd m
       top (t ∷ f) k m l = let e = k.homogeneous.1.0 in omega arith
 
-      under : (w : Monomial) → degree_at (degree_of d.terms) w ≡ h.0.0.homogeneous.0 → total_degree w.exponents ≤ 1000
-      under w e =
-          let t = top b h.0.0 h.0.1 h.1 in
-          let more : total_degree w.exponents ≤ total_degree w.exponents + w.component * degree_of d.terms = omega arith in
-          omega arith
+  abbrev IsLowTerm : Monomial → Type 0
+  IsLowTerm w = (IsGraded n w × IsPlain w) × (total_degree w.exponents ≤ 1000)
+
+  lowered_low : (f : List Term) → EachMono IsLowTerm f → degree_of (dehomogenised p f) ≤ 1000
+  lowered_low f h =
+      degree_le 1000 (dehomogenised p f)
+      (every_normal (AtMost 1000) p (image lower f) (every_image IsLowTerm (AtMost 1000) lower f (λ w x. (let l = degree_lower n six w x.0.0 x.0.1 in let k = x.1 in omega arith)) h))
+
+  low_first : (b : List Term) → IsLowMember b → degree_of (dehomogenised p (first b)) ≤ 1000
+  low_first b h =
+      lowered_low (first b)
+      (every_more (λ w. IsPlain w × (IsGraded n w × (degree_at (degree_of d.terms) w ≡ h.0.0.homogeneous.0))) IsLowTerm (first b) (λ w x. ((x.1.0, x.0), under b h w x.1.1))
+      (every_zip IsPlain (λ w. IsGraded n w × (degree_at (degree_of d.terms) w ≡ h.0.0.homogeneous.0)) (first b) (plain_first b)
+      (every_first (λ w. IsGraded n w × (degree_at (degree_of d.terms) w ≡ h.0.0.homogeneous.0)) b
+      (every_zip (IsGraded n) (λ w. degree_at (degree_of d.terms) w ≡ h.0.0.homogeneous.0) b h.0.0.vector.graded h.0.0.homogeneous.1))))
+
+  low_second : (b : List Term) → IsLowMember b → degree_of (dehomogenised p (second b)) ≤ 1000
+  low_second b h =
+      lowered_low (second b)
+      (every_second (λ w. IsGraded n w × (degree_at (degree_of d.terms) w ≡ h.0.0.homogeneous.0)) IsLowTerm b
+      (λ w z x. ((record { seven = x.0.seven; first = x.0.first; two = (omega arith) }, refl), under b h w x.1))
+      (every_zip (IsGraded n) (λ w. degree_at (degree_of d.terms) w ≡ h.0.0.homogeneous.0) b h.0.0.vector.graded h.0.0.homogeneous.1))
+
+  each_low : (fs : List (List Term)) → All (λ f. degree_of (dehomogenised p f) ≤ 1000) fs → All (λ f. degree_of f ≤ 1000) (all_dehomogenised p fs)
+  each_low [] a = All-nil (λ f. degree_of f ≤ 1000)
+  each_low (f ∷ fs) a =
+      All-cons (λ (f : List Term). degree_of f ≤ 1000) (dehomogenised p f) (all_dehomogenised p fs) (All-head (λ f. degree_of (dehomogenised p f) ≤ 1000) f fs a)
+      (each_low fs (All-tail (λ f. degree_of (dehomogenised p f) ≤ 1000) f fs a))
+
+  pub sum_low : (qs : List Polynomial) → terms_of qs ≡ sum_members p (terms_of m.vectors) → All (λ f. degree_of f ≤ 1000) (terms_of qs)
+  sum_low qs e =
+      subst (All (λ f. degree_of f ≤ 1000)) (sym (e ∙ sums_are p (terms_of m.vectors)))
+      (each_low (firsts_of (terms_of m.vectors))
+      (all_firsts IsLowMember (λ f. degree_of (dehomogenised p f) ≤ 1000) (terms_of m.vectors) (λ b h z. low_first b h) low_members))
 
   pub colon_low : (qs : List Polynomial) → terms_of qs ≡ colon_members p (terms_of m.vectors) → All (λ f. degree_of f ≤ 1000) (terms_of qs)
   colon_low qs e =
       subst (All (λ f. degree_of f ≤ 1000)) (sym (e ∙ colons_are p (terms_of m.vectors)))
-      (each (seconds_of (terms_of m.vectors))
-      (all_seconds (λ b. (IsGenerator p n (degree_of d.terms) b × IsMonic b) × (degree_at (degree_of d.terms) (lead_mono b) ≤ 1000)) (λ f. degree_of (dehomogenised p f) ≤ 1000) (terms_of m.vectors)
-      (λ b h z. low_second b h)
-      (all_from (λ b. (IsGenerator p n (degree_of d.terms) b × IsMonic b) × (degree_at (degree_of d.terms) (lead_mono b) ≤ 1000)) (terms_of m.vectors)
-      (λ b c. (
-        (All-contains (IsGenerator p n (degree_of d.terms)) (terms_of m.vectors) b reduced.vectors c, All-contains IsMonic (terms_of m.vectors) b reduced.monic c),
-        All-contains (λ f. degree_at (degree_of d.terms) (lead_mono f) ≤ 1000) (terms_of m.vectors) b low_at c,
-      )))))
-    where
-      each : (fs : List (List Term)) → All (λ f. degree_of (dehomogenised p f) ≤ 1000) fs → All (λ f. degree_of f ≤ 1000) (all_dehomogenised p fs)
-      each [] a = All-nil (λ f. degree_of f ≤ 1000)
-      each (f ∷ fs) a =
-          All-cons (λ (f : List Term). degree_of f ≤ 1000) (dehomogenised p f) (all_dehomogenised p fs) (All-head (λ f. degree_of (dehomogenised p f) ≤ 1000) f fs a)
-          (each fs (All-tail (λ f. degree_of (dehomogenised p f) ≤ 1000) f fs a))
+      (each_low (seconds_of (terms_of m.vectors))
+      (all_seconds IsLowMember (λ f. degree_of (dehomogenised p f) ≤ 1000) (terms_of m.vectors) (λ b h z. low_second b h) low_members))
 
   -- ---- all of it
 
@@ -170,10 +194,10 @@ module _ (p n : ℕ) (prime : IsPrime p) (six : n ≤ 6) (generators : List Poly
 
     pub lifted : (some : 1 ≤ n) (sums colons sum colon : List Polynomial) → terms_of sums ≡ sum_members p (terms_of m.vectors) → terms_of colons ≡ colon_members p (terms_of m.vectors)
         → All (IsOver p n) sum → All (IsOver p n) colon → IsReducedBasis p n (InIdeal p n (terms_of sums)) (terms_of sum) → IsReducedBasis p n (InIdeal p n (terms_of colons)) (terms_of colon)
-        → All (λ f. degree_of f ≤ 1000) (terms_of colon)
+        → All (λ f. degree_of f ≤ 1000) (terms_of sum) → All (λ f. degree_of f ≤ 1000) (terms_of colon)
         → IsLifted (record { prime = p; variables = n; denominator = d; ideal = ideal; sum = sum; colon = colon })
         × HasModule (record { prime = p; variables = n; denominator = d; ideal = ideal; sum = sum; colon = colon }) m
-    lifted some sums colons sum colon es' ec so co bs' bc lc = (
+    lifted some sums colons sum colon es' ec so co bs' bc ls lc = (
       record {
         prime = prime;
         some_variables = some;
@@ -189,6 +213,7 @@ module _ (p n : ℕ) (prime : IsPrime p) (six : n ≤ 6) (generators : List Poly
         colon = basis_for p n (InColon p n (terms_of generators) d.terms) (InColon p n (terms_of ideal) d.terms) (terms_of colon) (λ f a. same_ideal (mul p d.terms f))
             (basis_by p n (InColon p n (terms_of generators) d.terms) (colon_members p (terms_of m.vectors)) (terms_of colon)
             (parts_law.colon p n d.terms (terms_of generators) (terms_of m.vectors) ga mb) (subst (λ w. IsReducedBasis p n (InIdeal p n w) (terms_of colon)) ec bc));
+        sum_low = ls;
         low = lc;
       },
       record { generators = terms_of generators; given = ga; same = same_ideal; prime = ep; variables = en; shift = es; gens = known.0; reduced = known.1; span = span; low = low_at },
@@ -267,3 +292,11 @@ span_pairs p n d ideal pairs b ep en ev h =
 pub ok_more : {T E : Type 0} (r : Result T E) (P Q : T → Type 0) → ((x : T) → P x → Q x) → IfOk r P → IfOk r Q
 ok_more (Ok x) P Q h k = h x k
 ok_more (Err e) P Q h k = k
+
+-- leads are no higher than their polynomials
+pub low_leads : (fs : List (List Term)) → All (λ f. degree_of f ≤ 1000) fs → HasLowLeads fs
+low_leads fs h k d l = let x = h k d l in let y = lead_low (get_or fs k d) in omega arith
+  where
+    lead_low : (f : List Term) → total_degree (lead_mono f).exponents ≤ degree_of f
+    lead_low [] = omega arith
+    lead_low (t ∷ f) = (each_degree (t ∷ f)).0

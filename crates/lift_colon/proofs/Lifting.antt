@@ -29,7 +29,7 @@ use Rattle.module_basis.specs.declared.gens.Gens.{Gens}
 use Rattle.standard_monomials.specs.Finding.{HasDimAbove}
 use Rattle.standard_monomials.specs.declared.finding.Dimension.{Dimension}
 use Rattle.lift_colon.proofs.Bases.{ok_more}
-use Rattle.lift_colon.specs.Lifted.{LiftedData, IsLifted, HasModule, IsLift}
+use Rattle.lift_colon.specs.Lifted.{LiftedData, IsLifted, HasModule, IsLift, IsDimension}
 
 module _ (l : LiftedData) (m : Gens) (h : IsLifted l) (hm : HasModule l m) where
   abbrev p : ℕ
@@ -223,6 +223,16 @@ module _ (l : LiftedData) (h : IsLifted l) where
     pub infinite : (a ≡ Dimension.Infinite) ↔ HasInfiniteDim l.prime l.variables (terms_of l.sum)
         → (a ≡ Dimension.Infinite) ↔ HasInfiniteDim l.prime l.variables (l.denominator.terms ∷ terms_of l.ideal)
     infinite k = (λ e. has_infinite_dim.0 (k.0 e), λ x. k.1 (has_infinite_dim.1 x))
+
+  pub is_dimension : (limit : ℕ) (a : Dimension) (basis : List Polynomial) → basis ≡ l.sum
+      → ((N : ℕ) → (a ≡ Dimension.Finite N) ↔ ((N ≤ limit) × HasDim l.prime l.variables (terms_of basis) N))
+      → (a ≡ Dimension.Wide) ↔ HasDimAbove l.prime l.variables (terms_of basis) limit
+      → (a ≡ Dimension.Infinite) ↔ HasInfiniteDim l.prime l.variables (terms_of basis) → IsDimension l limit a
+  is_dimension limit a basis e f w i = record {
+    finite = finite limit a (subst (λ b. (N : ℕ) → (a ≡ Dimension.Finite N) ↔ ((N ≤ limit) × HasDim l.prime l.variables (terms_of b) N)) e f);
+    wide = wide limit a (subst (λ b. (a ≡ Dimension.Wide) ↔ HasDimAbove l.prime l.variables (terms_of b) limit) e w);
+    infinite = infinite limit a (subst (λ b. (a ≡ Dimension.Infinite) ↔ HasInfiniteDim l.prime l.variables (terms_of b)) e i);
+  }
 
   -- and of the answer of a call
   module _ (p n limit : ℕ) (basis : List Polynomial) (ep : p ≡ l.prime) (en : n ≡ l.variables) (eb : basis ≡ l.sum) {E : Type 0} (r : Result Dimension E) where

@@ -1,10 +1,10 @@
 -- An ideal and a denominator with the reduced bases of the ideal, of its sum with the denominator and of the colon ideal
 -- (Greuel and Pfister, sections on colon ideals and on syzygies).
-use Rattle.std.specs.Prelude.{◌≡◌, ◌≢◌, ◌↔◌, ◌⊎◌, ℕ, ◌+◌, ◌≤◌, List, [], ◌∷◌, All}
+use Rattle.std.specs.Prelude.{◌≡◌, ◌≢◌, ◌↔◌, ◌⊎◌, ℕ, ◌+◌, ◌<◌, ◌≤◌, List, [], ◌∷◌, All}
 use Rattle.prime_field.specs.Primes.{IsPrime}
 use Rattle.polys.specs.declared.term.Term.{Term}
 use Rattle.polys.specs.Curve.{IsOver}
-use Rattle.polys.specs.Ideal.{InIdeal}
+use Rattle.polys.specs.Ideal.{InIdeal, HasDim, HasInfiniteDim}
 use Rattle.polys.specs.Poly.{Polynomial, terms_of}
 use Rattle.polys.specs.Reduced.{IsReducedBasis}
 use Rattle.polys.specs.Terms.{IsPoly, degree_of, sub, mul}
@@ -14,6 +14,7 @@ use Rattle.graded_modules.specs.Vector.{degree_at, lead_mono}
 use Rattle.homogenising.specs.Homogenised.{all_homogenised}
 use Rattle.denominator_module.specs.Laws.{AreGiven}
 use Rattle.denominator_module.specs.Module.{module_of, IsDeepDenominator, IsColonBasis}
+use Rattle.standard_monomials.specs.declared.finding.Dimension.{Dimension}
 use Rattle.module_basis.specs.declared.gens.Gens.{Gens}
 use Rattle.module_basis.specs.Gens.{AreGens}
 
@@ -38,7 +39,22 @@ pub record IsLifted (l : LiftedData) : Type 0 where
   pub ideal : IsReducedBasis l.prime l.variables (InIdeal l.prime l.variables (terms_of l.ideal)) (terms_of l.ideal)
   pub sum : IsReducedBasis l.prime l.variables (InIdeal l.prime l.variables (l.denominator.terms ∷ terms_of l.ideal)) (terms_of l.sum)
   pub colon : IsColonBasis l.prime l.variables (terms_of l.ideal) l.denominator.terms (terms_of l.colon)
+  pub sum_low : All (λ f. degree_of f ≤ 1000) (terms_of l.sum)
   pub low : All (λ f. degree_of f ≤ 1000) (terms_of l.colon)
+
+-- the dimension of the polynomials modulo the ideal and the denominator
+abbrev pub HasDimension : LiftedData → ℕ → Type 0
+HasDimension l N = HasDim l.prime l.variables (l.denominator.terms ∷ terms_of l.ideal) N
+
+-- it is infinite
+abbrev pub HasInfiniteDimension : LiftedData → Type 0
+HasInfiniteDimension l = HasInfiniteDim l.prime l.variables (l.denominator.terms ∷ terms_of l.ideal)
+
+-- the answer is this dimension, as far as it is at most the limit
+pub record IsDimension (l : LiftedData) (limit : ℕ) (a : Dimension) : Type 0 where
+  pub finite : (N : ℕ) → (a ≡ Dimension.Finite N) ↔ ((N ≤ limit) × HasDimension l N)
+  pub wide : (a ≡ Dimension.Wide) ↔ ((N : ℕ) × (limit < N) × HasDimension l N)
+  pub infinite : (a ≡ Dimension.Infinite) ↔ HasInfiniteDimension l
 
 -- the module of the denominator over generators of the ideal
 pub record HasModule (l : LiftedData) (m : Gens) : Type 0 where

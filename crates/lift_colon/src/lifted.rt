@@ -1,6 +1,7 @@
 // An ideal and a denominator with the bases that decide about them.
 ghost use Rattle.std.specs.Prelude.{◌≡◌, ℕ, ◌<◌, ◌≤◌, ◌+◌, ◌↔◌, ◌∷◌, All, IfOk, IfErr, IsTrue, IsNone, IfSome};
-ghost use Rattle.lift_colon.specs.Lifted.{IsLifted, IsDeepWith, IsLift};
+ghost use Rattle.lift_colon.specs.Lifted.{IsLifted, IsDeepWith, IsDimension, IsLift, HasDimension, HasInfiniteDimension};
+ghost use Rattle.lift_colon.specs.declared.lifted.TheConstants.{LARGEST_DIMENSION};
 ghost use Rattle.polys.specs.Poly.{terms_of};
 ghost use Rattle.module_basis.specs.declared.gens.BasisStop.TheVariants.{Deep};
 ghost use Rattle.denominator_module.specs.Module.{module_of, IsDeepDenominator};
@@ -9,7 +10,7 @@ ghost use Rattle.graded_modules.specs.Deep.{IsDeep};
 ghost use Rattle.homogenising.specs.Homogenised.{all_homogenised};
 ghost use Rattle.graded_modules.specs.Vector.{degree_at, lead_mono};
 ghost use Rattle.polys.specs.Curve.{IsOver};
-ghost use Rattle.polys.specs.Ideal.{HasDim, HasInfiniteDim, InIdeal, Regular};
+ghost use Rattle.polys.specs.Ideal.{InIdeal, Regular};
 ghost use Rattle.polys.specs.Reduced.{IsReducedBasis};
 ghost use Rattle.polys.specs.Terms.{IsPoly, degree_of};
 ghost use Rattle.prime_field.specs.Primes.{IsPrime};
@@ -25,8 +26,11 @@ use standard_monomials::{Dimension, dimension_modulo};
 use std::alloc::Global;
 use std::marker::Model;
 
+/// The greatest dimension that a [`Lifted`] keeps.
+pub const LARGEST_DIMENSION: u32 = 256;
+
 /// An ideal I and a denominator d, with the reduced bases of I, of I + (d) and of the colon ideal I : d, and the
-/// reduced basis of the graded module of d, from which they come.
+/// reduced basis of the graded module of d, from which they come, and the dimension modulo I + (d).
 ///
 /// Greuel and Pfister, sections on colon ideals and on syzygies.
 #[derive(Debug, Drop)]
@@ -38,10 +42,12 @@ pub struct Lifted {
     sum: List<Poly>,
     colon: List<Poly>,
     graded: GradedBasis,
+    dimension: Dimension,
 }
 
 impl Model for Lifted {
-    ghost use Rattle.lift_colon.specs.Lifted.{LiftedData, IsLifted, HasModule};
+    ghost use Rattle.lift_colon.specs.Lifted.{LiftedData, IsLifted, HasModule, IsDimension};
+    ghost use Rattle.lift_colon.specs.declared.lifted.TheConstants.{LARGEST_DIMENSION};
 
     ghost Value = { LiftedData };
 
@@ -49,7 +55,8 @@ impl Model for Lifted {
 
     ghost invariant = { λ l.
         IsLifted (record { prime = l.prime; variables = l.variables; denominator = l.denominator; ideal = l.ideal; sum = l.sum; colon = l.colon })
-        × HasModule (record { prime = l.prime; variables = l.variables; denominator = l.denominator; ideal = l.ideal; sum = l.sum; colon = l.colon }) l.graded };
+        × HasModule (record { prime = l.prime; variables = l.variables; denominator = l.denominator; ideal = l.ideal; sum = l.sum; colon = l.colon }) l.graded
+        × IsDimension (record { prime = l.prime; variables = l.variables; denominator = l.denominator; ideal = l.ideal; sum = l.sum; colon = l.colon }) LARGEST_DIMENSION l.dimension };
 }
 
 /// The reduced basis of the ideal of the list, in rising order of the leads.
@@ -132,6 +139,7 @@ fn of_module(
     let sum = interreduced(alloc, prime, variables, sums.as_slice())?;
     let colons = colon_part(alloc, prime, variables, vectors)?;
     let colon = interreduced(alloc, prime, variables, colons.as_slice())?;
+    let dimension = dimension_modulo(alloc, prime, variables, sum.as_slice(), LARGEST_DIMENSION)?;
     Ok(Lifted {
         prime,
         variables,
@@ -140,6 +148,7 @@ fn of_module(
         sum,
         colon,
         graded,
+        dimension,
     })
 }
 
@@ -249,6 +258,14 @@ impl Lifted {
     {
         self.colon.as_slice()
     }
+
+    /// The dimension of the polynomials modulo I + (d), where it is at most [`LARGEST_DIMENSION`]. It was counted when the
+    /// bases were made.
+    pub fn small_dimension(&self) -> Dimension
+        ensures { IsDimension self.now LARGEST_DIMENSION result }
+    {
+        self.dimension
+    }
 }
 
 impl Lifted {
@@ -282,10 +299,9 @@ impl Lifted {
     /// The dimension of the polynomials modulo I + (d), up to the limit. It is the number of the standard monomials of the
     /// reduced basis of I + (d).
     pub fn dimension(&self, alloc: Global, limit: u32) -> Result<Dimension, NoMemory>
-        requires { limit ≤ 60000 }
-        ensures finite { IfOk result (λ a. (N : ℕ) → (a ≡ Dimension.Finite N) ↔ ((N ≤ limit) × HasDim self.now.prime self.now.variables (self.now.denominator.terms ∷ terms_of self.now.ideal) N)) }
-        ensures wide { IfOk result (λ a. (a ≡ Dimension.Wide) ↔ ((N : ℕ) × (limit < N) × HasDim self.now.prime self.now.variables (self.now.denominator.terms ∷ terms_of self.now.ideal) N)) }
-        ensures infinite { IfOk result (λ a. (a ≡ Dimension.Infinite) ↔ HasInfiniteDim self.now.prime self.now.variables (self.now.denominator.terms ∷ terms_of self.now.ideal)) }
+        ensures finite { IfOk result (λ a. (N : ℕ) → (a ≡ Dimension.Finite N) ↔ ((N ≤ limit) × HasDimension self.now N)) }
+        ensures wide { IfOk result (λ a. (a ≡ Dimension.Wide) ↔ ((N : ℕ) × (limit < N) × HasDimension self.now N)) }
+        ensures infinite { IfOk result (λ a. (a ≡ Dimension.Infinite) ↔ HasInfiniteDimension self.now) }
     {
         dimension_modulo(alloc, self.prime, self.variables, self.sum_basis(), limit)
     }

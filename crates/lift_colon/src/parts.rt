@@ -26,13 +26,12 @@ fn unit_vector(alloc: Global, prime: Prime, variables: u32, d: &Poly) -> Result<
     ensures prime { IfOk result (λ v. v.prime ≡ prime) }
     ensures terms { IfOk result (λ v. v.terms ≡ with_unit d.now.terms) }
 {
-    let lifted = homogenised_to(alloc, variables, d.degree(), d)?;
-    let mut terms = List::of_vec(lifted.into_terms());
+    let mut terms = homogenised_to(alloc, variables, d.degree(), d)?.into_terms();
     terms.push(Term {
         coeff: 1,
         mono: Mono::one().with_component(1),
     })?;
-    Ok(Poly::of_terms(prime, terms.into_vec()))
+    Ok(Poly::of_terms(prime, terms))
 }
 
 /// The vectors (d, 1) and (g, 0) for each generator g of the ideal, homogenised.
@@ -56,15 +55,15 @@ pub fn module_gens(
     ensures gens { IfOk result (λ gens. AreGens gens) }
 {
     let gens = Gens::homogenised(alloc, prime, variables, ideal)?;
-    let mut first = List::new(alloc);
-    first.push(unit_vector(alloc, prime, variables, d)?)?;
-    let mut vectors = first.into_vec();
-    vectors.append(&mut gens.vectors.into_vec())?;
+    let mut others = gens.vectors;
+    let mut vectors = List::new(alloc);
+    vectors.push(unit_vector(alloc, prime, variables, d)?)?;
+    vectors.append(&mut others)?;
     Ok(Gens {
         prime,
         variables,
         shift: d.degree(),
-        vectors: List::of_vec(vectors),
+        vectors,
     })
 }
 

@@ -67,7 +67,7 @@ pub fn graded_basis(alloc: Global, gens: &Gens, cap: u32) -> Result<GradedBasis,
     ensures low { IfOk result (λ basis. All (λ b. degree_at gens.now.shift (lead_mono b) ≤ cap) (terms_of basis.vectors)) }
     ensures deep { IfErr result (λ stop. stop ≡ Deep → IsDeep gens.now.prime gens.now.variables gens.now.shift (terms_of gens.now.vectors) cap) }
 {
-    let _modulus = gens.prime.get();
+    let _prime = gens.prime.get();
     if has_high_vector(gens.vectors.as_slice(), gens.shift, cap) {
         return Err(BasisStop::Deep);
     }
@@ -146,7 +146,7 @@ impl GradedBasis {
         ensures graded { IfOk result (λ r. IsGradedVector self.now.prime self.now.variables r.terms) }
         ensures degree { IfOk result (λ r. (e : ℕ) → HasDegree self.now.shift e v.now.terms → HasDegree self.now.shift e r.terms) }
     {
-        let _modulus = self.prime.get();
+        let _prime = self.prime.get();
         let terms = v.clone_poly()?.into_terms();
         let alloc = *terms.allocator();
         let rest = vector_remainder(alloc, self.prime, terms, &self.vectors)?;
@@ -163,7 +163,7 @@ impl GradedBasis {
         ensures basis { IfOk result (λ ds. IsLoweredBasis self.now (terms_of ds)) }
         ensures leads { IfOk result (λ ds. HasLoweredLeads self.now (terms_of ds)) }
     {
-        let _modulus = self.prime.get();
+        let _prime = self.prime.get();
         leads_lose_the_variable();
         leads_stay_leads();
         ideals_have_bases_by_leads();
@@ -207,7 +207,7 @@ fn with_variable_one(
     ensures known { IfOk result (λ g. IsVector prime g.terms) }
 {
     leads_lose_the_variable();
-    let _modulus = prime.get();
+    let _prime = prime.get();
     let terms = lowered_terms(alloc, f)?;
     Ok(Poly::of_terms(prime, terms))
 }

@@ -93,13 +93,13 @@ fn homogenised_poly(alloc: Global, prime: Prime, variables: u32, f: &Poly) -> Re
     requires poly { IsOver prime variables f.now }
     ensures { IfOk result (λ g. g ≡ homogenised_of prime f.now) }
 {
-    let _modulus = prime.get();
+    let _prime = prime.get();
     homogenising_is_undone();
     let degree = f.degree();
     let mut terms = Vec::new(alloc);
     for t in f.terms() {
         let lifted = lifted_term(t, degree);
-        terms.push(lifted).map_err(|_| NoMemory)?;
+        terms.push(lifted)?;
     }
     Ok(Poly::of_terms(prime, terms))
 }

@@ -51,7 +51,7 @@ impl Growing {
         ensures cap { OnOk result (self.new.cap ≡ self.old.cap) }
         ensures deep { IfErr result (λ stop. stop ≡ Deep → HasHighLeads gens.now self.old.cap) }
     {
-        let _modulus = gens.prime.get();
+        let _prime = gens.prime.get();
         self.take_generators(gens, e)?;
         self.settle_pairs(gens, e)?;
         Ok(())
@@ -68,7 +68,7 @@ impl Growing {
         ensures members { OnOk result ((f : List Term) → Contains (terms_of gens.now.vectors) f → degree_at gens.now.shift (lead_mono f) ≡ e → InModule gens.now.prime gens.now.variables (terms_of self.new.basis.items) f) }
         ensures deep { IfErr result (λ stop. stop ≡ Deep → HasHighLeads gens.now self.old.cap) }
     {
-        let _modulus = gens.prime.get();
+        let _prime = gens.prime.get();
         let vectors = gens.vectors.as_slice();
         for k in 0..vectors.len() {
             self.take_generator(gens, &vectors[k], e)?;
@@ -110,7 +110,7 @@ impl Growing {
         ensures awaited { OnOk result (AreAwaited gens.now self.old.cap (terms_of self.new.basis.items) self.new.pairs.items (length self.new.basis.items)) }
         ensures deep { IfErr result (λ stop. stop ≡ Deep → HasHighLeads gens.now self.old.cap) }
     {
-        let _modulus = gens.prime.get();
+        let _prime = gens.prime.get();
         let alloc = *self.pairs.allocator();
         let waiting = mem::replace(&mut self.pairs, Vec::new(alloc));
         for k in 0..waiting.len() {
@@ -153,7 +153,7 @@ impl Growing {
         ensures settled { OnOk result (IsSettledPair gens.now (terms_of self.new.basis.items) pair.first pair.second) }
         ensures deep { IfErr result (λ stop. stop ≡ Deep → HasHighLeads gens.now self.old.cap) }
     {
-        let _modulus = gens.prime.get();
+        let _prime = gens.prime.get();
         if is_chained(gens, &self.basis, pair) {
             return Ok(());
         }
@@ -175,7 +175,7 @@ impl Growing {
         ensures below { OnOk result (IsBelowAll gens.now e (terms_of self.new.basis.items) v.items) }
         ensures deep { IfErr result (λ stop. stop ≡ Deep → HasHighLeads gens.now self.old.cap) }
     {
-        let _modulus = gens.prime.get();
+        let _prime = gens.prime.get();
         let alloc = *self.basis.allocator();
         let rest = vector_remainder(alloc, gens.prime, v, &self.basis)?;
         if rest.is_empty() {
@@ -198,7 +198,7 @@ impl Growing {
         ensures vectors { OnOk result (self.new.basis.items ≡ self.old.basis.items ++ b ∷ []) }
         ensures deep { IfErr result (λ stop. stop ≡ Deep → HasHighLeads gens.now self.old.cap) }
     {
-        let _modulus = gens.prime.get();
+        let _prime = gens.prime.get();
         self.push(b)?;
         self.pair_up(gens, e)?;
         Ok(())
@@ -210,7 +210,7 @@ impl Growing {
         ensures vectors { OnOk result (self.new.basis.items ≡ self.old.basis.items ++ b ∷ []) }
         ensures pairs { self.new.pairs.items ≡ self.old.pairs.items }
     {
-        self.basis.push(b).map_err(|_| NoMemory)
+        Ok(self.basis.push(b)?)
     }
 
     // Puts the pair at the end.
@@ -219,7 +219,7 @@ impl Growing {
         ensures vectors { self.new.basis.items ≡ self.old.basis.items }
         ensures pairs { OnOk result (self.new.pairs.items ≡ self.old.pairs.items ++ pair ∷ []) }
     {
-        self.pairs.push(pair).map_err(|_| NoMemory)
+        Ok(self.pairs.push(pair)?)
     }
 
     // Forms the pairs of the last vector, which has the degree e, with the others.
@@ -256,7 +256,7 @@ impl Growing {
         ensures awaited { OnOk result (AreOfOneComponent (terms_of self.old.basis.items) first second → IsAwaited gens.now self.old.cap (terms_of self.old.basis.items) self.new.pairs.items first second) }
         ensures deep { IfErr result (λ stop. stop ≡ Deep → HasHighLeads gens.now self.old.cap) }
     {
-        let _modulus = gens.prime.get();
+        let _prime = gens.prime.get();
         let f = &self.basis[first];
         let g = &self.basis[second];
         let a = lead_mono(f);

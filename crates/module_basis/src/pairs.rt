@@ -73,7 +73,7 @@ pub(crate) fn is_chained(gens: &Gens, basis: &[Poly], pair: Pair) -> bool
     requires pair { IsPair gens.now.shift (terms_of basis.now) pair }
     ensures { IsTrue result → IsSettledPair gens.now (terms_of basis.now) pair.first pair.second }
 {
-    let _modulus = gens.prime.get();
+    let _prime = gens.prime.get();
     let a = lead_mono(&basis[pair.first]);
     let b = lead_mono(&basis[pair.second]);
     let m = Mono::lcm(&a, &b);

@@ -41,7 +41,7 @@ pub fn interreduced(
     ensures basis { IfOk result (λ ds. IsReducedBasis prime variables (InIdeal prime variables (terms_of members.now)) (terms_of ds)) }
     ensures low { IfOk result (λ ds. (D : ℕ) → All (λ f. degree_of f ≤ D) (terms_of members.now) → All (λ f. degree_of f ≤ D) (terms_of ds)) }
 {
-    let _modulus = prime.get();
+    let _prime = prime.get();
     let _variables = variables;
     keep_vectors(members);
     Ok(List::of_vec(interreduced_vectors(alloc, prime, members)?))
@@ -63,7 +63,7 @@ pub fn remainder(variables: u32, v: &Poly, divisors: &[Poly]) -> Result<Poly, No
 {
     let _variables = variables;
     let prime = v.prime();
-    let _modulus = prime.get();
+    let _prime = prime.get();
     keep_vectors(divisors);
     let terms = v.clone_poly()?.into_terms();
     let alloc = *terms.allocator();

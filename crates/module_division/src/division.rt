@@ -132,7 +132,7 @@ pub fn vector_remainder(
     ensures known { IfOk result (λ r. IsVector p r.items) }
     ensures outside { IfOk result (λ r. EachMono (λ m. IsLeadMultiple (terms_of divisors.now) m → ⊥) r.items) }
 {
-    let _modulus = p.get();
+    let _prime = p.get();
     let mut rest = v;
     let mut next = Vec::new(alloc);
     let mut out = Vec::new(alloc);

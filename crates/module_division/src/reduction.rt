@@ -42,7 +42,7 @@ fn copied(alloc: Global, vectors: &[Poly]) -> Result<Vec<Poly>, NoMemory>
     let mut copy = Vec::new(alloc);
     for f in vectors {
         let g = f.clone_poly()?;
-        copy.push(g).map_err(|_| NoMemory)?;
+        copy.push(g)?;
     }
     Ok(copy)
 }
@@ -77,7 +77,7 @@ fn keep_unless_superfluous(kept: &mut Vec<Poly>, f: &Poly) -> Result<(), NoMemor
         Some(_) => Ok(()),
         None => {
             let copy = f.clone_poly()?;
-            kept.push(copy).map_err(|_| NoMemory)?;
+            kept.push(copy)?;
             Ok(())
         }
     }
@@ -93,7 +93,7 @@ fn with_reduced_tails(alloc: Global, p: Prime, vectors: &[Poly]) -> Result<Vec<P
     let mut reduced = Vec::new(alloc);
     for k in 0..vectors.len() {
         let g = with_reduced_tail(alloc, p, &vectors[k], vectors)?;
-        reduced.push(g).map_err(|_| NoMemory)?;
+        reduced.push(g)?;
     }
     Ok(reduced)
 }

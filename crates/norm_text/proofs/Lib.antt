@@ -2,3 +2,4 @@ pub mod Joins
 pub mod Pieces
 pub mod Plain
 mod Meaning
+mod NamedExamples

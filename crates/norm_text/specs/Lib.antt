@@ -6,3 +6,4 @@ pub mod Joined
 pub mod Lines
 pub mod Plain
 pub mod Meaning
+pub mod Examples

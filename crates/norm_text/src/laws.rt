@@ -1,5 +1,6 @@
 // The laws of answers: each function has an empty body, and its contract is the law.
 ghost use Rattle.norm_text.specs.Plain.{PlainAnswers};
+ghost use Rattle.norm_text.specs.Examples.{AtNames, AtPassesBy};
 ghost use Rattle.norm_text.specs.Meaning.{ModulesAreIntegral, ModulesAreLocal, PowersAreLeast};
 
 /// Where nothing is left modulo a regular denominator and no points are named, the ring is its own closure: there is no
@@ -15,4 +16,10 @@ pub fn answers_decide_integrality()
     ensures integral { ModulesAreIntegral }
     ensures least { PowersAreLeast }
     ensures local { ModulesAreLocal }
+{}
+
+/// On the cusp the statement `at x, y;` names the origin, and `at x-1;` does not.
+pub fn statements_name_points()
+    ensures names { AtNames }
+    ensures passes_by { AtPassesBy }
 {}

@@ -9,9 +9,9 @@ ghost use Rattle.norm_text.specs.Shown.{point_of, data_of};
 
 use crate::{Answer, PointLine};
 use lists::{List, NoMemory};
+use poly_text::{print_bytes, print_number, print_poly};
 use polys::Poly;
 use problem::Letters;
-use poly_text::{print_bytes, print_number, print_poly};
 use std::alloc::Global;
 
 // A line with a number.

@@ -15,6 +15,7 @@ use Rattle.singular_text.specs.declared.faults.ReadFault.{ReadFault}
 use Rattle.singular_text.specs.declared.faults.ReadFault.TheVariants.{Characteristic, Limit}
 use Rattle.singular_text.specs.declared.faults.Which.TheVariants.{Variables, Generators, Points, Nesting, Digits}
 
+-- the fault that was answered
 abbrev pub fault_of : {A : Type 0} → Result A ReadFault → Option ReadFault
 fault_of (Ok x) = None
 fault_of (Err fault) = Some fault
@@ -27,10 +28,12 @@ count_fault s =
     else (if nat_lt MAX_NESTING s.nesting then Some (Limit Nesting)
     else (if nat_lt MAX_DIGITS s.digits then Some (Limit Digits) else None)))
 
+-- the fault, or else the result
 abbrev pub or_fault : {A : Type 0} → Option ReadFault → Result A ReadFault → Result A ReadFault
 or_fault None result = result
 or_fault (Some fault) result = Err fault
 
+-- the same by the tokens behind `poly`, its name and `=`
 abbrev pub denominator_by : ℕ → List ℕ → List (List ℕ) → Option (List (List ℕ)) → Result (Option Polynomial × List (List ℕ)) ReadFault
 denominator_by p letters ts None = Ok (None, ts)
 denominator_by p letters ts (Some behind) = and_then (evaluate p letters [] new_frame [] behind) (λ r. Ok (last_or None r.0, r.1))
@@ -44,6 +47,7 @@ unfoldable pub points_at : ℕ → List ℕ → List (List Polynomial) → ℕ �
 points_at p letters before zero ts = Ok before
 points_at p letters before (suc n) ts = and_then (evaluate p letters [] new_frame [] (drop 1 ts)) (λ r. points_at p letters (before ++ r.0 ∷ []) n r.1)
 
+-- the problem of these parts
 abbrev pub problem_with : ℕ → List ℕ → List Polynomial → Option Polynomial → List (List Polynomial) → Problem
 problem_with p letters generators denominator at = record { prime = p; letters = letters; generators = generators; denominator = denominator; at = at }
 

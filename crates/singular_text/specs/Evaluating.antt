@@ -29,24 +29,25 @@ abbrev pub AgreesStep : Result Frame ReadFault → List Frame → Result (Frame 
 AgreesStep (Ok frame) frames read = read ≡ Ok (frame, frames)
 AgreesStep (Err fault) frames read = IsFault fault read
 
+-- the next step of a value, or the fault so far
 abbrev pub and_then : {A B : Type 0} → Result A ReadFault → (A → Result B ReadFault) → Result B ReadFault
 and_then (Ok x) next = next x
 and_then (Err fault) next = Err fault
 
+-- the value, where it is small
 abbrev pub checked : Polynomial → Result Polynomial ReadFault
 checked f = if is_small f.terms then Ok f else Err (Limit Size)
 
+-- the polynomial 0
 abbrev pub zero_poly : ℕ → Polynomial
 zero_poly p = record { prime = p; terms = [] }
-
-abbrev pub single_term : ℕ → ℕ → Polynomial
-single_term p c = record { prime = p; terms = term_of p c unit }
 
 -- the term that ends with this factor
 abbrev pub term_with : Option Polynomial → Polynomial → Result Polynomial ReadFault
 term_with None f = Ok f
 term_with (Some t) f = checked (product_of t f)
 
+-- the same of a factor that may be missing
 abbrev pub last_term : Option Polynomial → Option Polynomial → Result Polynomial ReadFault
 last_term product None = Err Syntax
 last_term product (Some f) = term_with product f
@@ -58,21 +59,27 @@ sum_with p None true t = checked (difference_of (zero_poly p) t)
 sum_with p (Some e) false t = checked (sum_of e t)
 sum_with p (Some e) true t = checked (difference_of e t)
 
+-- the whole expression of a frame
 unfoldable pub close : ℕ → Frame → Result Polynomial ReadFault
 close p frame = and_then (last_term frame.product frame.factor) (sum_with p frame.sum frame.is_negative)
 
+-- behind an open parenthesis or at the start of an expression
 abbrev pub new_frame : Frame
 new_frame = record { sum = None; is_negative = false; product = None; factor = None; is_raised = false }
 
+-- behind a factor
 abbrev pub with_factor : Frame → Polynomial → Frame
 with_factor frame f = record frame { factor = Some f; is_raised = false }
 
+-- behind a star
 abbrev pub star : Frame → Result Frame ReadFault
 star frame = and_then (last_term frame.product frame.factor) (λ t. Ok (record frame { product = Some t; factor = None }))
 
+-- behind a sign
 abbrev pub signed_frame : Option Polynomial → Bool → Frame
 signed_frame sum is_negative = record { sum = sum; is_negative = is_negative; product = None; factor = None; is_raised = false }
 
+-- a sign ends the expression before it, where there is one
 abbrev pub sign_step_by : Option Polynomial → ℕ → Frame → Bool → Result Frame ReadFault
 sign_step_by None p frame is_negative = Ok (signed_frame None is_negative)
 sign_step_by (Some f) p frame is_negative = and_then (close p frame) (λ e. Ok (signed_frame (Some e) is_negative))
@@ -80,9 +87,11 @@ sign_step_by (Some f) p frame is_negative = and_then (close p frame) (λ e. Ok (
 abbrev pub sign_step : ℕ → Frame → Bool → Result Frame ReadFault
 sign_step p frame is_negative = sign_step_by frame.factor p frame is_negative
 
+-- the value of a number
 abbrev pub constant : ℕ → List ℕ → Result Polynomial ReadFault
 constant p digits = checked (record { prime = p; terms = term_of p (number digits % p) unit })
 
+-- the value of a letter
 abbrev pub variable_value : ℕ → List ℕ → ℕ → Result Polynomial ReadFault
 variable_value p letters x = checked (record { prime = p; terms = term_of p 1 (variable (place letters x)) })
 
@@ -90,9 +99,11 @@ abbrev pub variable_token : ℕ → List ℕ → List ℕ → Result Polynomial 
 variable_token p letters (x ∷ []) = variable_value p letters x
 variable_token p letters _ = Err Syntax
 
+-- the value of a run
 abbrev pub run_value : ℕ → List ℕ → List ℕ → Result Polynomial ReadFault
 run_value p letters word = checked (record { prime = p; terms = term_of p (front_number word % p) (run_monomial letters word) })
 
+-- the power of a value by an exponent
 abbrev pub power_value : Polynomial → List ℕ → Result Polynomial ReadFault
 power_value base digits = checked (power_of base (number digits))
 
@@ -100,6 +111,7 @@ abbrev pub raised_value : Option Polynomial → List ℕ → Result Polynomial R
 raised_value None digits = Err Syntax
 raised_value (Some base) digits = power_value base digits
 
+-- a number is an exponent behind a caret, and a base otherwise
 abbrev pub number_value : ℕ → Frame → List ℕ → Result Polynomial ReadFault
 number_value p frame digits = if frame.is_raised then raised_value frame.factor digits else constant p digits
 
@@ -117,6 +129,7 @@ inner_step p letters class.Variable token frame = and_then (variable_token p let
 inner_step p letters class.Run token frame = and_then (run_value p letters token) (λ f. Ok (with_factor frame f))
 inner_step p letters _ token frame = Err Syntax
 
+-- the same where a frame stands before them
 abbrev pub pop_behind : Frame → Option (List Frame × Frame) → Option (List Frame × Frame)
 pop_behind frame None = Some ([], frame)
 pop_behind frame (Some found) = Some (frame ∷ found.0, found.1)
@@ -126,10 +139,12 @@ unfoldable pub pop : List Frame → Option (List Frame × Frame)
 pop [] = None
 pop (frame ∷ frames) = pop_behind frame (pop frames)
 
+-- the frame outside a closing parenthesis, with the value inside as its factor
 abbrev pub closed : Option (List Frame × Frame) → Polynomial → Result (Frame × List Frame) ReadFault
 closed None f = Err Syntax
 closed (Some found) f = Ok (with_factor found.1 f, found.0)
 
+-- a token of an expression, and the frames that it leaves
 abbrev pub step : ℕ → List ℕ → Class → List ℕ → Frame → List Frame → Result (Frame × List Frame) ReadFault
 step p letters class.Open token frame frames = Ok (new_frame, frames ++ frame ∷ [])
 step p letters class.Close token frame frames = and_then (close p frame) (closed (pop frames))
@@ -151,6 +166,7 @@ evaluate p letters values frame frames (t ∷ ts) =
 
 -- ---- what calls of polynomials need
 
+-- what was read of an expression is fit
 pub record IsFitFrame (p n : ℕ) (frame : Frame) : Type 0 where
   pub sum : IfSome frame.sum (IsFit p n)
   pub product : IfSome frame.product (IsFit p n)

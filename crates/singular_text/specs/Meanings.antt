@@ -31,6 +31,7 @@ first_fault t =
     else (if nat_lt MAX_DIGITS (greatest most_digits (expressions t)) then Some (Limit Digits)
     else (if not (list_all (has_small_values p t.letters) (expressions t)) then Some (Limit Size) else None))))))
 
+-- the value of a denominator, where its statement stands
 abbrev pub denominator_value : ℕ → List ℕ → Option DenominatorText → Option (List Term)
 denominator_value p letters None = None
 denominator_value p letters (Some d) = Some (value p letters d.expression)

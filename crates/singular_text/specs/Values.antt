@@ -38,6 +38,7 @@ run_monomial letters word = run_after letters unit word
 abbrev pub term_of : ℕ → ℕ → Monomial → List Term
 term_of p c m = normal p (record { coeff = c; mono = m } ∷ [])
 
+-- f, or 0 - f
 abbrev pub signed : ℕ → Bool → List Term → List Term
 signed p true f = sub p [] f
 signed p false f = f

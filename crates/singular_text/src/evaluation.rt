@@ -2,8 +2,8 @@
 ghost use Rattle.std.specs.Prelude.{◌≡◌, ◌<◌, ◌≤◌, ◌+◌, ◌*◌, ◌==◌, [], ◌∷◌, ◌++◌, length, true, IfOk, IfSome, OnOk, Some, Ok, Err, MatchResult};
 ghost use Rattle.std.specs.List.{AllByRecursion};
 ghost use Rattle.monomials.specs.Mono.{unit, variable, total_degree, IsMono};
-ghost use Rattle.polys.specs.Terms.{degree_of, IsAffine};
-ghost use Rattle.polys.specs.Poly.{power_of, product_of, sum_of, difference_of};
+ghost use Rattle.polys.specs.Terms.{degree_of, EachMono, IsAffine};
+ghost use Rattle.polys.specs.Poly.{IsPlain, power_of, product_of, sum_of, difference_of};
 ghost use Rattle.problem_form.specs.Tokens.{tokens};
 ghost use Rattle.problem_form.specs.Words.{class_of, is_run, IsLetterOf};
 ghost use Rattle.problem.specs.Letters.{is_among, place};
@@ -102,6 +102,19 @@ fn checked(f: Poly) -> Result<Poly, ReadFault>
     Ok(f)
 }
 
+// The power, where it is small enough. One with too many terms is found out by its first terms.
+fn small_power(base: &Poly, n: u32) -> Result<Poly, ReadFault>
+    requires plain { EachMono IsPlain base.now.terms }
+    requires room { degree_of base.now.terms * n ≤ 60000 }
+    ensures exact { Agrees (λ f. f) result (checked (power_of base.now n)) }
+    ensures degree { IfOk result (λ r. (r ≡ power_of base.now n) × (degree_of r.terms ≤ MAX_DEGREE)) }
+{
+    match base.power_within(n, MAX_TERMS)? {
+        None => Err(ReadFault::Limit(Which::Size)),
+        Some(power) => checked(power),
+    }
+}
+
 /// The field and the variables in which values are taken.
 #[derive(Debug, Drop)]
 pub struct Ground {
@@ -192,7 +205,7 @@ impl Ground {
         if n * degree > MAX_DEGREE {
             return Err(ReadFault::Limit(Which::Size));
         }
-        checked(base.power(n)?)
+        small_power(base, n)
     }
 
     fn product(&self, f: &Poly, g: &Poly) -> Result<Poly, ReadFault>

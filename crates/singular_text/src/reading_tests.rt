@@ -125,6 +125,12 @@ fn problems_are_read(rt: HostRuntime) -> Result<(), Fail> {
             "xy",
             "x^7;x^4*y+x^2*y+y;|",
         ),
+        (
+            "ring r = 47,(a,b,c,d,e,f),dp; ideal I = (a+b+c+d+e+f+1)^47;",
+            47,
+            "abcdef",
+            "a^47+b^47+c^47+d^47+e^47+f^47+1;|",
+        ),
     ] {
         match read_problem(rt.alloc(), text.as_bytes()) {
             Ok(problem) => {
@@ -229,6 +235,10 @@ fn faults_come_in_order(rt: HostRuntime) -> Result<(), Fail> {
         ),
         (
             "ring r = 32003,(u,v,w,x,y,z),dp; ideal I = (1+u+v+w+x+y+z)^8;",
+            ReadFault::Limit(Which::Size),
+        ),
+        (
+            "ring r = 32003,(a,b,c,d,e,f),dp; ideal I = (a+b+c+d+e+f+1)^60;",
             ReadFault::Limit(Which::Size),
         ),
     ] {

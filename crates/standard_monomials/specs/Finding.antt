@@ -1,13 +1,13 @@
 -- Finding and counting the standard monomials of an ideal by its reduced basis.
-use Rattle.std.specs.Prelude.{◌≡◌, ◌≢◌, ◌↔◌, ◌⊎◌, ℕ, ◌<◌, ◌≤◌, List, length, map, slice_index_or, Contains}
+use Rattle.std.specs.Prelude.{◌≡◌, ◌≢◌, ◌↔◌, ◌⊎◌, ℕ, ◌<◌, ◌≤◌, List, length, map, slice_index_or, All, Contains}
 use Rattle.std.specs.declared.cmp.Ordering.TheVariants.{Less, Greater}
-use Rattle.monomials.specs.Mono.{Monomial, times, variable, cmp_dp}
+use Rattle.monomials.specs.Mono.{Monomial, times, variable, total_degree, cmp_dp}
 use Rattle.polys.specs.declared.term.Term.{Term}
 use Rattle.polys.specs.Poly.{Polynomial}
 use Rattle.polys.specs.Ideal.{HasDim}
 use Rattle.graded_modules.specs.Vector.{lead_mono}
 use Rattle.graded_modules.specs.Module.{IsLeadMultiple}
-use Rattle.standard_monomials.specs.Standard.{IsPowerOf, IsRising}
+use Rattle.standard_monomials.specs.Standard.{IsPowerOf, IsRising, IsStandard}
 use Rattle.standard_monomials.specs.declared.finding.Standard.{Standard}
 use Rattle.standard_monomials.specs.declared.finding.Standard.TheVariants.{All as Listed, Wide, Infinite}
 
@@ -23,6 +23,14 @@ HasDimUpTo p n gs limit = (N : ℕ) × (N ≤ limit) × HasDim p n gs N
 abbrev pub HasDimAbove : ℕ → ℕ → List (List Term) → ℕ → Type 0
 HasDimAbove p n gs limit = (N : ℕ) × (limit < N) × HasDim p n gs N
 
+-- no lead of ds has a degree above 9,000
+abbrev pub HasLowLeads : List (List Term) → Type 0
+HasLowLeads ds = All (λ f. total_degree (lead_mono f).exponents ≤ 9000) ds
+
+-- the limit is at most 60,000, or the leads have low degrees: then the search meets no monomial of a higher degree
+abbrev pub IsInReach : List (List Term) → ℕ → Type 0
+IsInReach ds limit = (limit ≤ 60000) ⊎ HasLowLeads ds
+
 -- P holds of the list, if the answer is one
 abbrev pub IfListed : (List Monomial → Type 0) → Standard → Type 0
 IfListed P (Listed ms) = P ms
@@ -36,6 +44,10 @@ IsListed Wide = ⊥
 IsListed Infinite = ⊥
 
 -- ---- the steps of the search
+
+-- each standard monomial has a degree below 60,000
+abbrev pub HasLowStandard : ℕ → List (List Term) → Type 0
+HasLowStandard n ds = (m : Monomial) → IsStandard n ds m → total_degree m.exponents < 60000
 
 -- some lead is a power of the variable
 abbrev pub HasPowerLead : List (List Term) → ℕ → Type 0

@@ -1,12 +1,12 @@
 // The standard monomials of an ideal and their number, by its reduced basis.
-ghost use Rattle.std.specs.Prelude.{◌≡◌, ◌↔◌, ℕ, ◌<◌, ◌≤◌, List, length, All, Contains, IsTrue, IfOk, OnOk};
+ghost use Rattle.std.specs.Prelude.{◌≡◌, ◌↔◌, ℕ, ◌<◌, ◌≤◌, ◌⊎◌, List, length, All, Contains, IsTrue, IfOk, OnOk};
 ghost use Rattle.std.specs.Bool.{MatchBool};
 ghost use Rattle.monomials.specs.Mono.{Monomial, total_degree};
 ghost use Rattle.polys.specs.Ideal.{HasDim, HasInfiniteDim};
 ghost use Rattle.polys.specs.Reduced.{Reduced};
 ghost use Rattle.graded_modules.specs.Module.{IsLeadMultiple};
 ghost use Rattle.graded_modules.specs.Vector.{lead_mono};
-ghost use Rattle.standard_monomials.specs.Finding.{terms_of, HasDimUpTo, HasDimAbove, IfListed, IsListed, HasPowerLead, Gains, GainsMultiples};
+ghost use Rattle.standard_monomials.specs.Finding.{terms_of, HasDimUpTo, HasDimAbove, IfListed, IsListed, IsInReach, HasLowStandard, HasPowerLead, Gains, GainsMultiples};
 ghost use Rattle.standard_monomials.specs.Standard.{IsStandard, AreStandard, IsRising};
 
 use lists::{List, NoMemory};
@@ -127,7 +127,7 @@ fn search(
     limit: usize,
 ) -> Result<Vec<Mono>, AllocError>
     requires variables { variables ≤ 6 }
-    requires limit { limit ≤ 60000 }
+    requires reach { (limit ≤ 60000) ⊎ HasLowStandard variables (terms_of basis.now) }
     ensures rising { IfOk result (λ found. IsRising found.items) }
     ensures each { IfOk result (λ found. All (IsStandard variables (terms_of basis.now)) found.items) }
     ensures whole { IfOk result (λ found. length found.items ≤ limit → (m : Monomial) → IsStandard variables (terms_of basis.now) m → Contains found.items m) }
@@ -148,7 +148,8 @@ fn search(
 
 /// The standard monomials of an ideal, in rising order of dp: the monomials in the first `variables` variables that no
 /// lead of the ideal divides. They are a basis of the polynomials modulo the ideal. `basis` is the ideal's reduced basis
-/// over `prime`, empty for the ideal 0, and `limit` the greatest number of monomials that is wanted.
+/// over `prime`, empty for the ideal 0, and `limit` the greatest number of monomials that is wanted: at most 60,000, or
+/// any number where the leads have degrees of at most 9,000.
 ///
 /// They are finitely many exactly where each variable has a power among the leads. Then a search from 1 on multiplies
 /// each monomial found by each variable, and stops once more than `limit` are found, so no degree is above `limit`. For N
@@ -165,7 +166,7 @@ pub fn standard_monomials(
 ) -> Result<Standard, NoMemory>
     requires variables { variables ≤ 6 }
     requires reduced { Reduced prime variables (terms_of basis.now) }
-    requires limit { limit ≤ 60000 }
+    requires limit { IsInReach (terms_of basis.now) limit }
 
     // The list has the standard monomials and no other, each once.
     ensures standard { IfOk result (IfListed (AreStandard variables (terms_of basis.now))) }
@@ -202,7 +203,7 @@ pub fn dimension_modulo(
 ) -> Result<Dimension, NoMemory>
     requires variables { variables ≤ 6 }
     requires reduced { Reduced prime variables (terms_of basis.now) }
-    requires limit { limit ≤ 60000 }
+    requires limit { IsInReach (terms_of basis.now) limit }
     ensures finite { IfOk result (λ answer. (N : ℕ) → (answer ≡ Dimension.Finite N) ↔ ((N ≤ limit) × HasDim prime variables (terms_of basis.now) N)) }
     ensures wide { IfOk result (λ answer. (answer ≡ Dimension.Wide) ↔ HasDimAbove prime variables (terms_of basis.now) limit) }
     ensures infinite { IfOk result (λ answer. (answer ≡ Dimension.Infinite) ↔ HasInfiniteDim prime variables (terms_of basis.now)) }

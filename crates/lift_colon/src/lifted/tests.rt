@@ -3,7 +3,7 @@ ghost use Rattle.std.specs.Prelude.{◌≡◌, All, IfOk, IfSome, IsTrue, OnOk};
 ghost use Rattle.polys.specs.Curve.{IsOver};
 ghost use Rattle.polys.specs.Terms.{IsPoly};
 
-use super::Lifted;
+use super::{Lifted, ideal_basis};
 use lists::List;
 use module_basis::BasisStop;
 use monomials::Mono;
@@ -143,7 +143,7 @@ fn plane_dimension(
     put_variable(alloc, p, 4, &mut ideal)?;
     put_variable(alloc, p, 5, &mut ideal)?;
     let l = made(alloc, p, ideal.as_slice(), d, 100)?.ok_or("deep")?;
-    Ok(l.dimension(alloc, limit.min(1000))?)
+    Ok(l.dimension(alloc, limit)?)
 }
 
 // Whether the polynomials are exactly these.
@@ -196,6 +196,55 @@ fn sums_and_colons(rt: HostRuntime) -> Result<(), Fail> {
     assert!(rt; has_bases(alloc, p, doubled, x, &[&[product], &[x], &[cross]], false)?);
     assert!(rt; has_bases(alloc, p, cusp, one, &[&[cusp], &[one], &[cusp]], true)?);
     assert!(rt; has_bases(alloc, p, y, cross, &[&[y], &[y], &[one]], false)?);
+    Ok(())
+}
+
+// Modulo x^2 and the other variables: the dimension for x^2 is twice that for x, and yet x times x is in the ideal.
+#[test]
+fn a_square_over_its_root(rt: HostRuntime) -> Result<(), Fail> {
+    let alloc = rt.alloc();
+    let p = Prime::new(7).ok_or("7 is in the table")?;
+    let square: Rows = &[(1, 2, 0)];
+    let mut ideal = List::new(alloc);
+    put(alloc, p, square, &mut ideal)?;
+    put_variable(alloc, p, 1, &mut ideal)?;
+    put_variable(alloc, p, 2, &mut ideal)?;
+    put_variable(alloc, p, 3, &mut ideal)?;
+    put_variable(alloc, p, 4, &mut ideal)?;
+    put_variable(alloc, p, 5, &mut ideal)?;
+    let l = made(alloc, p, ideal.as_slice(), &[(1, 1, 0)], 100)?.ok_or("deep")?;
+    let twice = made(alloc, p, ideal.as_slice(), square, 100)?.ok_or("deep")?;
+    assert!(rt; l.small_dimension() == Dimension::Finite(1));
+    assert!(rt; twice.small_dimension() == Dimension::Finite(2));
+    assert!(rt; !l.is_regular()?);
+    Ok(())
+}
+
+// Over the ideal of x^2 - y and x y, which holds y^2: the basis of the ideal, then the bases for the denominator x.
+#[test]
+fn bases_over_a_basis(rt: HostRuntime) -> Result<(), Fail> {
+    let alloc = rt.alloc();
+    let p = Prime::new(7).ok_or("7 is in the table")?;
+    let parabola: Rows = &[(1, 2, 0), (6, 0, 1)];
+    let cross: Rows = &[(1, 1, 1)];
+    let squares: Rows = &[(1, 0, 2)];
+    let x: Rows = &[(1, 1, 0)];
+    let y: Rows = &[(1, 0, 1)];
+    let mut ideal = List::new(alloc);
+    put(alloc, p, parabola, &mut ideal)?;
+    put(alloc, p, cross, &mut ideal)?;
+    let d = polynomial(alloc, p, x)?;
+    let generators = ideal.as_slice();
+    let Ok(basis) = ideal_basis(alloc, p, 6, generators, 100) else {
+        return Err("no basis".into());
+    };
+    assert!(rt; are_rows(alloc, p, basis.as_slice(), &[squares, cross, parabola])?);
+    let Ok(l) = Lifted::over_basis(alloc, p, 6, generators, basis, &d, 100) else {
+        return Err("deep".into());
+    };
+    assert!(rt; are_rows(alloc, p, l.ideal_basis(), &[squares, cross, parabola])?);
+    assert!(rt; are_rows(alloc, p, l.sum_basis(), &[y, x])?);
+    assert!(rt; are_rows(alloc, p, l.colon_gens(), &[y, &[(1, 2, 0)]])?);
     Ok(())
 }
 
@@ -255,5 +304,6 @@ fn dimensions(rt: HostRuntime) -> Result<(), Fail> {
     assert!(rt; plane_dimension(alloc, p, cusp, &[(1, 0, 1)], 3)? == Dimension::Finite(3));
     assert!(rt; plane_dimension(alloc, p, cusp, &[(1, 0, 0)], 0)? == Dimension::Finite(0));
     assert!(rt; plane_dimension(alloc, p, cross, x, 100)? == Dimension::Infinite);
+    assert!(rt; plane_dimension(alloc, p, cusp, x, u32::MAX)? == Dimension::Finite(2));
     Ok(())
 }

@@ -27,7 +27,7 @@ returns-in-Finite-clause-good c =
     let basis = basis_as c.args.problem.now c.args.basis.now c.in-Ok.lifted.ideal c.requires.basis (known.3 ∙ c.in_ok-copied.ensures) in
     let r = regular c.args.problem.now prime c.requires.ready c.args.d.now c.in-Ok.lifted c.requires.denominator known.0 (known.1 ∙ c.variables_of.ensures.value) known.2 basis in
     let yes : IsTrue c.in_ok-is_regular.field-0 = cc in
-    let f = (c.in_ok-dimension.ensures.finite c.in-Finite.field-0).0 c.in-Finite.is in
+    let f = (c.small_dimension.ensures.finite c.in-Finite.field-0).0 c.in-Finite.is in
     record {
       allowed = record {
         not_deep = no_deep_module c.args.problem.now c.args.cap c.args.d.now c.variables_of.result c.as_slice-generators.result.now c.variables_of.ensures.value c.as_slice-generators.ensures c.in-Ok.ensures.not_deep;
@@ -47,7 +47,7 @@ returns-in-Wide-clause-reason c =
     let basis = basis_as c.args.problem.now c.args.basis.now c.in-Ok.lifted.ideal c.requires.basis (known.3 ∙ c.in_ok-copied.ensures) in
     let r = regular c.args.problem.now prime c.requires.ready c.args.d.now c.in-Ok.lifted c.requires.denominator known.0 (known.1 ∙ c.variables_of.ensures.value) known.2 basis in
     let yes : IsTrue c.in_ok-is_regular.field-0 = cc in
-    let w = c.in_ok-dimension.ensures.wide.0 c.in-Wide.is in (
+    let w = c.small_dimension.ensures.wide.0 c.in-Wide.is in (
       record {
         not_deep = no_deep_module c.args.problem.now c.args.cap c.args.d.now c.variables_of.result c.as_slice-generators.result.now c.variables_of.ensures.value c.as_slice-generators.ensures c.in-Ok.ensures.not_deep;
         regular = r.0 (c.in_ok-is_regular.ensures.0 yes);
@@ -66,5 +66,5 @@ returns-in-Infinite-clause-reason c =
         not_deep = no_deep_module c.args.problem.now c.args.cap c.args.d.now c.variables_of.result c.as_slice-generators.result.now c.variables_of.ensures.value c.as_slice-generators.ensures c.in-Ok.ensures.not_deep;
         regular = r.0 (c.in_ok-is_regular.ensures.0 yes);
       },
-      infinite c.args.problem.now prime c.requires.ready c.args.d.now c.in-Ok.lifted c.requires.denominator known.0 (known.1 ∙ c.variables_of.ensures.value) known.2 basis (c.in_ok-dimension.ensures.infinite.0 c.in-Infinite.is),
+      infinite c.args.problem.now prime c.requires.ready c.args.d.now c.in-Ok.lifted c.requires.denominator known.0 (known.1 ∙ c.variables_of.ensures.value) known.2 basis (c.small_dimension.ensures.infinite.0 c.in-Infinite.is),
     )

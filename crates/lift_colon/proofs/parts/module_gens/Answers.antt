@@ -11,7 +11,7 @@ pub returns-clause-gens : goal.returns-clause-gens
 returns-clause-gens c =
     let u = c.in_ok-unit_vector.field-0 in
     let g = c.in_ok-gens.gens in
-    let whole : c.of_vec.result ≡ u ∷ g.vectors = grind (arith, common_steps) in
+    let whole : c.append.new.self ≡ u ∷ g.vectors = grind (arith, common_steps) in
     let ring = c.in_ok-gens.ensures.ring in
     let over = all_at g.prime c.args.prime g.variables c.args.variables g.shift 0 g.vectors ring.0 ring.1 ring.2 c.in_ok-gens.ensures.gens.vectors in
     let lists : terms_of (u ∷ g.vectors) ≡ module_of c.args.d.now.terms (terms_of c.args.ideal.now) =
@@ -20,7 +20,7 @@ returns-clause-gens c =
     record {
       some_variables = c.requires.some_variables;
       six_variables = c.requires.six_variables;
-      vectors = subst (λ s. All (IsHomogeneousOver c.args.prime c.args.variables s) c.of_vec.result) (sym c.degree.ensures)
+      vectors = subst (λ s. All (IsHomogeneousOver c.args.prime c.args.variables s) c.append.new.self) (sym c.degree.ensures)
           (subst (All (IsHomogeneousOver c.args.prime c.args.variables _)) (sym whole)
           (module_over c.args.prime c.args.variables c.requires.six_variables c.requires.prime c.args.d.now c.args.ideal.now u g.vectors c.requires.denominator c.requires.ideal
           c.in_ok-unit_vector.ensures.prime over lists));

@@ -24,7 +24,7 @@ answer c =
     let g = c.loop-e.growing in
     let t = c.loop-e-test.false in
     let end = c.loop-e.auto in
-    let prime = subst IsPrime c.get-modulus.ensures.value c.get-modulus.ensures.prime in
+    let prime = subst IsPrime c.get-prime.ensures.value c.get-prime.ensures.prime in
     let high : HasHighVector gens.shift (terms_of gens.vectors) c.args.cap → ⊥ =
     λ h.
     let yes = c.has_high_vector.ensures.1 (subst (λ vs. HasHighVector gens.shift (terms_of vs) c.args.cap) (sym c.as_slice.ensures) h) in

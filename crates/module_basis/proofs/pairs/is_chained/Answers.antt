@@ -21,6 +21,6 @@ is_link-requires-clause-room c =
 pub returns-then-is_link : goal.returns-then-is_link
 returns-then-is_link c =
     λ _. linked c.args.gens.now c.args.basis.now c.args.pair c.loop-k.k c.index-basis-pair.result c.index-basis-pair-2.result c.index-basis-k.result
-    c.lead_mono-a.result c.lead_mono-b.result c.lead_mono.result c.lcm-m.result (subst IsPrime c.get-modulus.ensures.value c.get-modulus.ensures.prime)
+    c.lead_mono-a.result c.lead_mono-b.result c.lead_mono.result c.lcm-m.result (subst IsPrime c.get-prime.ensures.value c.get-prime.ensures.prime)
     c.requires.grown c.requires.pair (omega arith) c.index-basis-pair.is c.index-basis-pair-2.is c.index-basis-k.is c.lead_mono-a.ensures c.lead_mono-b.ensures c.lead_mono.ensures
     c.lcm-m.ensures.value (c.is_link.ensures c.if-is_link.true)

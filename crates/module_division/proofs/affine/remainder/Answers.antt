@@ -10,7 +10,7 @@ use Rattle.module_division.proofs.affine.remainder.Goals as goal
 pub vector_remainder-requires-clause-divisors : goal.vector_remainder-requires-clause-divisors
 vector_remainder-requires-clause-divisors c =
     let e = c.prime-prime.ensures in
-    let prime = subst IsPrime (c.get-modulus.ensures.value ∙ e) c.get-modulus.ensures.prime in
+    let prime = subst IsPrime (c.get-prime.ensures.value ∙ e) c.get-prime.ensures.prime in
     subst (λ q. All (IsDivisor q) c.args.divisors.now) (sym e)
     (divisors_of c.args.v.now.prime c.args.variables prime c.args.divisors.now c.requires.divisors c.requires.monic c.keep_vectors.ensures)
 
@@ -18,7 +18,7 @@ pub returns-clause-remainder : goal.returns-clause-remainder
 returns-clause-remainder c =
     let e = c.prime-prime.ensures in
     let p = c.args.v.now.prime in
-    let prime = subst IsPrime (c.get-modulus.ensures.value ∙ e) c.get-modulus.ensures.prime in
+    let prime = subst IsPrime (c.get-prime.ensures.value ∙ e) c.get-prime.ensures.prime in
     let same = c.into_terms-terms.ensures.value ∙ ap (λ f. f.terms) c.in_ok-clone_poly.ensures in
     let reduces =
     subst (λ v. Reduces p (terms_of c.args.divisors.now) v c.in_ok-rest.rest.items) same

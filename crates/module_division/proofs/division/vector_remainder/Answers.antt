@@ -100,7 +100,7 @@ loop-i-smaller c =
     subst (λ r. first_rank c.swap.new.x.items < first_rank r) (sym at.split)
     (subst (λ r. first_rank r < first_rank (t ∷ R)) (sym (next_is (goal.at.loop-i-smaller c).After-swap at.split))
     (rank_falls p t R (add p (t ∷ R) (mul p b.terms (s ∷ []))) at.vector
-    (taken_after p bs b.terms s t R (subst IsPrime c.get-modulus.ensures.value c.get-modulus.ensures.prime) at.opposes at.vector)))
+    (taken_after p bs b.terms s t R (subst IsPrime c.get-prime.ensures.value c.get-prime.ensures.prime) at.opposes at.vector)))
 
 pub loop-i-preserved : goal.loop-i-preserved
 loop-i-preserved c =
@@ -110,4 +110,4 @@ loop-i-preserved c =
     let at = at_step (goal.at.loop-i-preserved c).After-quotient in
     subst D (sym (next_is (goal.at.loop-i-preserved c).After-swap at.split))
     (divided_after p bs c.index-divisors-k.result.terms (record { coeff = c.neg.result; mono = c.quotient.result }) c.index.result.now (drop (c.loop-i.i + 1) c.loop-i.rest.items)
-    c.args.v.items c.loop-i.out.items (subst IsPrime c.get-modulus.ensures.value c.get-modulus.ensures.prime) at.opposes at.vector (subst D at.split c.loop-i.invariant))
+    c.args.v.items c.loop-i.out.items (subst IsPrime c.get-prime.ensures.value c.get-prime.ensures.prime) at.opposes at.vector (subst D at.split c.loop-i.invariant))

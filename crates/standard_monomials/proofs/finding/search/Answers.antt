@@ -1,8 +1,18 @@
-use Rattle.std.proofs.Common.{arith}
+use Rattle.std.proofs.Common.{◌<◌, inl, inr, length, sym, arith}
+use Rattle.std.specs.List.{Contains}
 use Rattle.standard_monomials.specs.Finding.{terms_of}
 use Rattle.standard_monomials.proofs.Steps.{searched_more, searched_all, searched_each}
 use Rattle.standard_monomials.proofs.finding.search.Goals.{then-loop-next-test+else-len-limit, else-loop-next-test}
 use Rattle.standard_monomials.proofs.finding.search.Goals as goal
+
+pub insert_multiples-requires-clause-room : goal.insert_multiples-requires-clause-room
+insert_multiples-requires-clause-room c =
+    let inside : c.loop-next.next < length c.loop-next.found.items = omega (arith, c.loop-next-test.true, c.len.ensures) in
+    let there : Contains c.loop-next.found.items c.index-m.result.now = (c.loop-next.next, inside, sym c.index-m.ensures) in
+    elim c.requires.reach [
+      | inl h ↦ let l = c.loop-next.invariant.low c.index-m.result.now there in omega (arith, c.len.ensures, c.len-in-loop-next.ensures)
+      | inr h ↦ h c.index-m.result.now (c.loop-next.invariant.each c.index-m.result.now there)
+    ]
 
 pub loop-next-preserved : goal.loop-next-preserved
 loop-next-preserved c =

@@ -1,10 +1,18 @@
-use Rattle.std.proofs.Common.{◌≤◌, arith, length, refl, sym, subst}
+use Rattle.std.proofs.Common.{◌≤◌, inl, inr, arith, length, refl, sym, subst}
 use Rattle.prime_field.specs.Primes.{IsPrime}
 use Rattle.polys.specs.Ideal.{HasDim, HasInfiniteDim}
 use Rattle.standard_monomials.specs.Standard.{AreStandard}
 use Rattle.standard_monomials.specs.Finding.{terms_of, HasDimAbove, HasDimUpTo}
 use Rattle.standard_monomials.proofs.Answered.{all_standard, infinite_by, above_by, dimension_by, not_above, not_up_to, not_finite}
+use Rattle.standard_monomials.proofs.Bounded.{standard_low}
 use Rattle.standard_monomials.proofs.finding.standard_monomials.Goals as goal
+
+pub search-requires-clause-reach : goal.search-requires-clause-reach
+search-requires-clause-reach c =
+    elim c.requires.limit [
+      | inl h ↦ inl h
+      | inr h ↦ inr (standard_low c.args.prime c.args.variables (terms_of c.args.basis.now) c.requires.variables c.requires.reduced.polys h c.if-not-has_all_power_leads.ensures)
+    ]
 
 pub returns-then-not-has_all_power_leads-clause-all : goal.returns-then-not-has_all_power_leads-clause-all
 returns-then-not-has_all_power_leads-clause-all c =

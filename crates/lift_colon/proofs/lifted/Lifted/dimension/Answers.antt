@@ -1,7 +1,14 @@
-use Rattle.std.proofs.Common.{ap}
+use Rattle.std.proofs.Common.{inr, sym, ap, subst}
+use Rattle.polys.specs.Poly.{terms_of}
+use Rattle.standard_monomials.specs.Finding.{HasLowLeads}
+use Rattle.lift_colon.proofs.Bases.{low_leads}
 use Rattle.lift_colon.specs.Lifted.{LiftedData}
 use Rattle.lift_colon.proofs.Lifting.{call_finite, call_wide, call_infinite}
 use Rattle.lift_colon.proofs.lifted.Lifted.dimension.Goals as goal
+
+pub dimension_modulo-requires-clause-limit : goal.dimension_modulo-requires-clause-limit
+dimension_modulo-requires-clause-limit c =
+    inr (subst (λ b. HasLowLeads (terms_of b)) (sym c.sum_basis.ensures.value) (low_leads (terms_of c.args.self.now.sum) c.sum_basis.ensures.known.sum_low))
 
 pub returns-clause-finite : goal.returns-clause-finite
 returns-clause-finite c =

@@ -10,13 +10,13 @@ use Rattle.lift_colon.proofs.lifted.Lifted.lift.Goals as goal
 pub normal_form-requires-clause-vector : goal.normal_form-requires-clause-vector
 normal_form-requires-clause-vector c =
     let g = c.args.g.now.terms in
-    let k = subst (λ x. IsLifted x × HasModule x c.self.inside.graded) c.self.view_is c.self.invariant in
+    let k = subst (λ x. IsLifted x × HasModule x c.self.inside.graded) c.self.view_is (c.self.invariant.0, c.self.invariant.1) in
     generator_at c.args.self.now c.self.inside.graded k.0 k.1 g c.requires.poly c.in_ok-high.high.terms (c.in_ok-high.ensures.terms ∙ ap (λ x. homogenised_to (x + 1000) g) c.degree.ensures)
 
 pub returns-then-is_some-clause-none : goal.returns-then-is_some-clause-none
 returns-then-is_some-clause-none c =
     let g = c.args.g.now.terms in
-    let k = subst (λ x. IsLifted x × HasModule x c.self.inside.graded) c.self.view_is c.self.invariant in
+    let k = subst (λ x. IsLifted x × HasModule x c.self.inside.graded) c.self.view_is (c.self.invariant.0, c.self.invariant.1) in
     let e = c.in_ok-high.ensures.terms ∙ ap (λ x. homogenised_to (x + 1000) g) c.degree.ensures in
     let q =
     none c.args.self.now c.self.inside.graded k.0 k.1 g c.requires.poly c.in_ok-high.high.terms c.in_ok-rest.rest.terms e c.in_ok-rest.ensures.graded c.in_ok-rest.ensures.degree c.in_ok-rest.ensures.normal
@@ -28,7 +28,7 @@ returns-then-is_some-clause-none c =
 pub dehomogenised-requires-clause-homogeneous : goal.dehomogenised-requires-clause-homogeneous
 dehomogenised-requires-clause-homogeneous c =
     let g = c.args.g.now.terms in
-    let k = subst (λ x. IsLifted x × HasModule x c.self.inside.graded) c.self.view_is c.self.invariant in
+    let k = subst (λ x. IsLifted x × HasModule x c.self.inside.graded) c.self.view_is (c.self.invariant.0, c.self.invariant.1) in
     let e = c.in_ok-high.ensures.terms ∙ ap (λ x. homogenised_to (x + 1000) g) c.degree.ensures in
     subst (λ x. IsHomogeneousPoly c.in_ok-second_part.field-0.prime x c.in_ok-second_part.field-0.terms) (sym (ap (λ (l : LiftedData). l.variables) c.self.view_is))
     (second_at c.args.self.now c.self.inside.graded k.0 k.1 g c.requires.poly c.in_ok-high.high.terms c.in_ok-rest.rest.terms e c.in_ok-rest.ensures.graded c.in_ok-rest.ensures.degree c.in_ok-rest.ensures.normal
@@ -37,7 +37,7 @@ dehomogenised-requires-clause-homogeneous c =
 pub returns-clause-some : goal.returns-clause-some
 returns-clause-some c =
     let g = c.args.g.now.terms in
-    let k = subst (λ x. IsLifted x × HasModule x c.self.inside.graded) c.self.view_is c.self.invariant in
+    let k = subst (λ x. IsLifted x × HasModule x c.self.inside.graded) c.self.view_is (c.self.invariant.0, c.self.invariant.1) in
     let e = c.in_ok-high.ensures.terms ∙ ap (λ x. homogenised_to (x + 1000) g) c.degree.ensures in
     let z = sym c.in_ok-first_part.ensures.terms ∙ no_lead c.in_ok-first_part.field-0.terms (sym (c.if-is_some.ensures ∙ ap is_some c.lead-2.ensures)) in
     let p = ap (λ (l : LiftedData). l.prime) c.self.view_is in
@@ -52,7 +52,7 @@ returns-clause-some c =
 pub returns-clause-none : goal.returns-clause-none
 returns-clause-none c =
     let g = c.args.g.now.terms in
-    let k = subst (λ x. IsLifted x × HasModule x c.self.inside.graded) c.self.view_is c.self.invariant in
+    let k = subst (λ x. IsLifted x × HasModule x c.self.inside.graded) c.self.view_is (c.self.invariant.0, c.self.invariant.1) in
     let e = c.in_ok-high.ensures.terms ∙ ap (λ x. homogenised_to (x + 1000) g) c.degree.ensures in
     let z = sym c.in_ok-first_part.ensures.terms ∙ no_lead c.in_ok-first_part.field-0.terms (sym (c.if-is_some.ensures ∙ ap is_some c.lead-2.ensures)) in
     let q =

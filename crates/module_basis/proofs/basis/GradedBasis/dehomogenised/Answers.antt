@@ -20,14 +20,14 @@ use Rattle.module_basis.proofs.basis.GradedBasis.dehomogenised.Goals.{In_ok-redu
 pub all_lowered-requires-clause-homogeneous : goal.all_lowered-requires-clause-homogeneous
 all_lowered-requires-clause-homogeneous c =
     let b : Gens = record { prime = c.self.inside.prime; variables = c.self.inside.variables; shift = c.self.inside.shift; vectors = c.self.inside.vectors.items } in
-    let prime = subst IsPrime c.get-modulus.ensures.value c.get-modulus.ensures.prime in
+    let prime = subst IsPrime c.get-prime.ensures.value c.get-prime.ensures.prime in
     let plain : All (EachMono IsPlain) (terms_of b.vectors) = subst (λ x. All (EachMono IsPlain) (terms_of x.vectors)) (sym c.self.view_is) c.requires.plain in
     subst (λ xs. All (IsHomogeneousPoly b.prime b.variables) (terms_of xs)) (sym c.deref.ensures.value) (homogeneous b c.self.invariant plain)
 
 pub interreduced_vectors-requires : goal.interreduced_vectors-requires
 interreduced_vectors-requires c =
     let b : Gens = record { prime = c.self.inside.prime; variables = c.self.inside.variables; shift = c.self.inside.shift; vectors = c.self.inside.vectors.items } in
-    let prime = subst IsPrime c.get-modulus.ensures.value c.get-modulus.ensures.prime in
+    let prime = subst IsPrime c.get-prime.ensures.value c.get-prime.ensures.prime in
     let plain : All (EachMono IsPlain) (terms_of b.vectors) = subst (λ x. All (EachMono IsPlain) (terms_of x.vectors)) (sym c.self.view_is) c.requires.plain in
     let same : c.in_ok-affine.affine.items ≡ map (lowered_of b.prime) b.vectors = c.in_ok-affine.ensures.value ∙ ap (map (lowered_of b.prime)) c.deref.ensures.value in
     let known : All (λ (f : Polynomial). IsVector b.prime f.terms) (map (lowered_of b.prime) b.vectors) = subst (All (λ (f : Polynomial). IsVector b.prime f.terms)) same c.in_ok-affine.ensures.known in
@@ -55,7 +55,7 @@ answer c gs all one =
     let r : IsInterreduced b.prime (terms_of (map (lowered_of b.prime) b.vectors)) ds =
     subst (λ xs. IsInterreduced b.prime (terms_of xs) ds) (c.deref-2.ensures.value ∙ same) c.in_ok-reduced.ensures in
     lowered_basis c.leads_lose_the_variable.ensures c.leads_stay_leads.ensures c.ideals_have_bases_by_leads.ensures b c.self.invariant
-    (subst IsPrime c.get-modulus.ensures.value c.get-modulus.ensures.prime) (plain c) known ds r gs all one
+    (subst IsPrime c.get-prime.ensures.value c.get-prime.ensures.prime) (plain c) known ds r gs all one
 
 pub returns-clause-over : goal.returns-clause-over
 returns-clause-over c =

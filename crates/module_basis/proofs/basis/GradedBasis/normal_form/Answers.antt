@@ -19,7 +19,7 @@ returns-clause-normal c =
     let v = c.args.v.now.terms in
     let from : c.into_terms-terms.result.items ≡ v = c.into_terms-terms.ensures.value ∙ ap (λ (f : Polynomial). f.terms) c.in_ok-clone_poly.ensures in
     let out : c.of_terms.result.terms ≡ rest = ap (λ (f : Polynomial). f.terms) c.of_terms.ensures in
-    let x = normal_at c.args.self.now b e c.self.invariant (subst IsPrime c.get-modulus.ensures.value c.get-modulus.ensures.prime) v rest c.requires.vector
+    let x = normal_at c.args.self.now b e c.self.invariant (subst IsPrime c.get-prime.ensures.value c.get-prime.ensures.prime) v rest c.requires.vector
     (subst (λ xs. Reduces b.prime (terms_of xs) v rest) c.deref.ensures.value (subst (λ y. Reduces b.prime (terms_of c.deref.result.now) y rest) from c.in_ok-rest.ensures.reduces))
     c.in_ok-rest.ensures.known (subst (λ xs. EachMono (λ m. IsLeadMultiple (terms_of xs) m → ⊥) rest) c.deref.ensures.value c.in_ok-rest.ensures.outside) in
     subst (IsNormalForm c.args.self.now.prime c.args.self.now.variables (terms_of c.args.self.now.vectors) v) (sym out) x.0
@@ -32,7 +32,7 @@ returns-clause-graded c =
     let v = c.args.v.now.terms in
     let from : c.into_terms-terms.result.items ≡ v = c.into_terms-terms.ensures.value ∙ ap (λ (f : Polynomial). f.terms) c.in_ok-clone_poly.ensures in
     let out : c.of_terms.result.terms ≡ rest = ap (λ (f : Polynomial). f.terms) c.of_terms.ensures in
-    let x = normal_at c.args.self.now b e c.self.invariant (subst IsPrime c.get-modulus.ensures.value c.get-modulus.ensures.prime) v rest c.requires.vector
+    let x = normal_at c.args.self.now b e c.self.invariant (subst IsPrime c.get-prime.ensures.value c.get-prime.ensures.prime) v rest c.requires.vector
     (subst (λ xs. Reduces b.prime (terms_of xs) v rest) c.deref.ensures.value (subst (λ y. Reduces b.prime (terms_of c.deref.result.now) y rest) from c.in_ok-rest.ensures.reduces))
     c.in_ok-rest.ensures.known (subst (λ xs. EachMono (λ m. IsLeadMultiple (terms_of xs) m → ⊥) rest) c.deref.ensures.value c.in_ok-rest.ensures.outside) in
     subst (IsGradedVector c.args.self.now.prime c.args.self.now.variables) (sym out) x.1
@@ -45,7 +45,7 @@ returns-clause-degree c =
     let v = c.args.v.now.terms in
     let from : c.into_terms-terms.result.items ≡ v = c.into_terms-terms.ensures.value ∙ ap (λ (f : Polynomial). f.terms) c.in_ok-clone_poly.ensures in
     let out : c.of_terms.result.terms ≡ rest = ap (λ (f : Polynomial). f.terms) c.of_terms.ensures in
-    let x = normal_at c.args.self.now b e c.self.invariant (subst IsPrime c.get-modulus.ensures.value c.get-modulus.ensures.prime) v rest c.requires.vector
+    let x = normal_at c.args.self.now b e c.self.invariant (subst IsPrime c.get-prime.ensures.value c.get-prime.ensures.prime) v rest c.requires.vector
     (subst (λ xs. Reduces b.prime (terms_of xs) v rest) c.deref.ensures.value (subst (λ y. Reduces b.prime (terms_of c.deref.result.now) y rest) from c.in_ok-rest.ensures.reduces))
     c.in_ok-rest.ensures.known (subst (λ xs. EachMono (λ m. IsLeadMultiple (terms_of xs) m → ⊥) rest) c.deref.ensures.value c.in_ok-rest.ensures.outside) in
     subst (λ (r : List Term). (e : ℕ) → HasDegree c.args.self.now.shift e v → HasDegree c.args.self.now.shift e r) (sym out) x.2

@@ -5,17 +5,17 @@ use Rattle.module_basis.proofs.growing.Growing.add.Goals as goal
 
 pub pair_up-requires-clause-growing : goal.pair_up-requires-clause-growing
 pair_up-requires-clause-growing c =
-    let prime = subst IsPrime c.get-modulus.ensures.value c.get-modulus.ensures.prime in
+    let prime = subst IsPrime c.get-prime.ensures.value c.get-prime.ensures.prime in
     pushed_growing c.args.gens.now c.args.e prime c.args.self.now c.push.new.self c.args.b c.requires.growing c.requires.fresh c.in_ok-push.ensures.vectors c.in_ok-push.ensures.pairs
 
 pub pair_up-requires-clause-last : goal.pair_up-requires-clause-last
 pair_up-requires-clause-last c =
-    let prime = subst IsPrime c.get-modulus.ensures.value c.get-modulus.ensures.prime in
+    let prime = subst IsPrime c.get-prime.ensures.value c.get-prime.ensures.prime in
     pushed_last c.args.gens.now c.args.e prime c.args.self.now c.push.new.self c.args.b c.requires.growing c.requires.fresh c.in_ok-push.ensures.vectors
 
 pub returns-clause-gains : goal.returns-clause-gains
 returns-clause-gains c =
-    let prime = subst IsPrime c.get-modulus.ensures.value c.get-modulus.ensures.prime in
+    let prime = subst IsPrime c.get-prime.ensures.value c.get-prime.ensures.prime in
     pushed_gains c.args.gens.now c.args.e prime c.args.self.now c.push.new.self c.args.b c.requires.growing c.requires.fresh c.in_ok-push.ensures.vectors c.pair_up.new.self
     c.in_ok-push.ensures.cap c.in_ok-push.ensures.pairs c.in_ok-pair_up.ensures.gains c.in_ok-pair_up.ensures.awaited
 

@@ -9,7 +9,7 @@ settle_pairs-requires-clause-ready c =
 
 pub returns-clause-ready : goal.returns-clause-ready
 returns-clause-ready c =
-    ready_next c.args.gens.now c.args.e c.take_generators.new.self.cap c.take_generators.new.self c.settle_pairs.new.self (subst IsPrime c.get-modulus.ensures.value c.get-modulus.ensures.prime)
+    ready_next c.args.gens.now c.args.e c.take_generators.new.self.cap c.take_generators.new.self c.settle_pairs.new.self (subst IsPrime c.get-prime.ensures.value c.get-prime.ensures.prime)
     c.in_ok-settle_pairs.ensures.growing c.in_ok-settle_pairs.ensures.cap c.in_ok-settle_pairs.ensures.vectors c.in_ok-settle_pairs.ensures.late c.in_ok-settle_pairs.ensures.awaited
     c.in_ok-take_generators.ensures.members
 

@@ -44,7 +44,7 @@ joint c =
     let hj : c.args.second < length fs = c.requires.inside in
     let hi : c.args.first < length fs = omega arith in
     record {
-      prime = subst IsPrime c.get-modulus.ensures.value c.get-modulus.ensures.prime;
+      prime = subst IsPrime c.get-prime.ensures.value c.get-prime.ensures.prime;
       before = hi;
       inside = omega arith;
       one = computed_component fs c.args.first c.args.second c.index-f.result.now c.index-g.result.now c.lead_mono-a.result c.lead_mono-b.result hi hj

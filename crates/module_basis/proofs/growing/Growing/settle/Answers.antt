@@ -44,7 +44,7 @@ take-requires-clause-vector c =
     let mj = member_is fs c.args.pair.second c.index-2.result.now (omega arith) c.index-2.ensures in
     subst (IsMemberAt gens c.args.e)
     (sym (c.into_terms.ensures.value ∙ c.in_ok-s.ensures.value ∙ (λ x. s_vector gens.prime (sym mi x) (sym mj x))))
-    (s_member gens c.args.e (omega arith) (subst IsPrime c.get-modulus.ensures.value c.get-modulus.ensures.prime) c.args.self.now c.requires.growing c.args.pair c.requires.pair c.requires.degree)
+    (s_member gens c.args.e (omega arith) (subst IsPrime c.get-prime.ensures.value c.get-prime.ensures.prime) c.args.self.now c.requires.growing c.args.pair c.requires.pair c.requires.degree)
 
 pub returns-clause-settled : goal.returns-clause-settled
 returns-clause-settled c =
@@ -58,7 +58,7 @@ returns-clause-settled c =
     let mi = member_is fs c.args.pair.first c.index.result.now (omega arith) c.index.ensures in
     let mj = member_is fs c.args.pair.second c.index-2.result.now (omega arith) c.index-2.ensures in
     let g = c.in_ok-take.ensures.gains in
-    s_settled gens c.args.e (omega arith) (subst IsPrime c.get-modulus.ensures.value c.get-modulus.ensures.prime) c.args.self.now c.requires.growing c.args.pair c.requires.pair c.requires.degree
+    s_settled gens c.args.e (omega arith) (subst IsPrime c.get-prime.ensures.value c.get-prime.ensures.prime) c.args.self.now c.requires.growing c.args.pair c.requires.pair c.requires.degree
     c.take.new.self.basis.items g.more g.vectors
     (subst (IsBelowAll gens c.args.e (terms_of c.take.new.self.basis.items))
     (c.into_terms.ensures.value ∙ c.in_ok-s.ensures.value ∙ (λ x. s_vector gens.prime (sym mi x) (sym mj x))) c.in_ok-take.ensures.below)

@@ -34,7 +34,7 @@ kept c none =
     let h = c.requires.degree in
     let k = c.requires.cap in
     let rest = c.in_ok-rest.rest.items in
-    keeps_all c.args.gens.now c.args.e (omega arith) (subst IsPrime c.get-modulus.ensures.value c.get-modulus.ensures.prime) c.args.self.now c.requires.growing c.args.v.items rest c.requires.vector
+    keeps_all c.args.gens.now c.args.e (omega arith) (subst IsPrime c.get-prime.ensures.value c.get-prime.ensures.prime) c.args.self.now c.requires.growing c.args.v.items rest c.requires.vector
     (subst (λ xs. Reduces c.args.gens.now.prime (terms_of xs) c.args.v.items rest) c.deref.ensures.value c.in_ok-rest.ensures.reduces) c.in_ok-rest.ensures.known
     (none_from_length rest none)
 
@@ -45,7 +45,7 @@ added c =
     let k = c.requires.cap in
     let rest = c.in_ok-rest.rest.items in
     let z = eqb-false (vec_len c.in_ok-rest.rest) 0 (sym c.if-is_empty.ensures) in
-    adds_rest c.args.gens.now c.args.e (omega arith) (subst IsPrime c.get-modulus.ensures.value c.get-modulus.ensures.prime) c.args.self.now c.requires.growing c.args.v.items rest c.requires.vector
+    adds_rest c.args.gens.now c.args.e (omega arith) (subst IsPrime c.get-prime.ensures.value c.get-prime.ensures.prime) c.args.self.now c.requires.growing c.args.v.items rest c.requires.vector
     (subst (λ xs. Reduces c.args.gens.now.prime (terms_of xs) c.args.v.items rest) c.deref.ensures.value c.in_ok-rest.ensures.reduces) c.in_ok-rest.ensures.known
     (subst (λ xs. EachMono (λ m. IsLeadMultiple (terms_of xs) m → ⊥) rest) c.deref.ensures.value c.in_ok-rest.ensures.outside)
     c.in_ok-b.b (c.in_ok-b.ensures.prime ∙ ap (λ (f : Polynomial). f.prime) c.of_terms.ensures) (some rest (λ q. z (omega arith)))

@@ -31,7 +31,7 @@ take_generator-requires-clause-member c =
     let gens = c.args.gens.now in
     let r = c.index-vectors-k.result in
     let n = ap length c.as_slice-vectors.ensures in
-    generator_in gens c.requires.gens (subst IsPrime c.get-modulus.ensures.value c.get-modulus.ensures.prime) c.loop-k.k r (omega arith)
+    generator_in gens c.requires.gens (subst IsPrime c.get-prime.ensures.value c.get-prime.ensures.prime) c.loop-k.k r (omega arith)
     (c.index-vectors-k.is ∙ ap (λ xs. get_or xs c.loop-k.k r) c.as_slice-vectors.ensures)
 
 pub loop-k-preserved : goal.loop-k-preserved
@@ -43,7 +43,7 @@ loop-k-preserved c =
     let g = c.in_ok-take_generator.ensures.gains in
     let inv = c.loop-k.invariant in
     let vs = c.as_slice-vectors.result.now in
-    let prime = subst IsPrime c.get-modulus.ensures.value c.get-modulus.ensures.prime in
+    let prime = subst IsPrime c.get-prime.ensures.value c.get-prime.ensures.prime in
     let here : (d : Polynomial) → get_or vs c.loop-k.k d ≡ c.index-vectors-k.result =
     λ d. get_or_default vs c.loop-k.k d c.index-vectors-k.result c.loop-k-test.true ∙ sym c.index-vectors-k.is in
     record {
