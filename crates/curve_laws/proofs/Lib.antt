@@ -24,3 +24,4 @@ pub mod StepLaws
 pub mod FewerLaws
 pub mod GeneratorLaws
 pub mod PointSetLaws
+pub mod ClosureBound

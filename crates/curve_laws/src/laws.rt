@@ -17,6 +17,7 @@ ghost use Rattle.curve_model.specs.Closing.{ClosureIsExact, ClosureIsIntegral, C
 ghost use Rattle.curve_model.specs.Generators.{OneIdealOneClosure};
 ghost use Rattle.curve_model.specs.OneDelta.{DeltaIsUnique, FewerAreIndependent};
 ghost use Rattle.curve_model.specs.OneExponent.{OneExponent, NumeratorsDecideIndependence, NumeratorsAreBasis};
+ghost use Rattle.curve_model.specs.PowerBound.{DeltasBoundClosure};
 ghost use Rattle.curve_model.specs.PointSets.{LocalAtGrows, SumsDependOnTheSet, PointsAreFew, FitCurvesHaveFewPoints};
 ghost use Rattle.curve_model.specs.Steps.{
   FitIsFinite,
@@ -171,4 +172,9 @@ pub fn points_are_a_set()
 pub fn points_are_few()
     ensures few { PointsAreFew }
     ensures fit { FitCurvesHaveFewPoints }
+{}
+
+/// The power of the closure at some points is at most the greatest of their deltas.
+pub fn deltas_bound_the_closure()
+    ensures { DeltasBoundClosure }
 {}

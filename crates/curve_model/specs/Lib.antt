@@ -16,3 +16,4 @@ pub mod OneExponent
 pub mod Steps
 pub mod Generators
 pub mod PointSets
+pub mod PowerBound
