@@ -7,9 +7,10 @@ use Rattle.norm_core.proofs.solving.is_nothing_left.Goals as goal
 pub returns-in-Finite : goal.returns-in-Finite
 returns-in-Finite c =
     let l = c.args.lifted.now in
-    let known = (c.small_dimension.ensures.finite c.in-Finite.dimension).0 c.in-Finite.is in
-    (λ yes. subst (HasDimension l) (eqb-true c.in-Finite.dimension 0 yes) known.1,
-    λ h.
-    let counted = (c.small_dimension.ensures.finite 0).1 (omega arith, h) in
-    let same : Finite c.in-Finite.dimension ≡ Finite 0 = sym c.in-Finite.is ∙ counted in
-    eq-eqb c.in-Finite.dimension 0 (cc))
+    let known = (c.small_dimension.ensures.finite c.in-Finite.dimension).0 c.in-Finite.is in (
+      λ yes. subst (HasDimension l) (eqb-true c.in-Finite.dimension 0 yes) known.1,
+      λ h.
+          let counted = (c.small_dimension.ensures.finite 0).1 (omega arith, h) in
+          let same : Finite c.in-Finite.dimension ≡ Finite 0 = sym c.in-Finite.is ∙ counted in
+          eq-eqb c.in-Finite.dimension 0 (cc),
+    )
