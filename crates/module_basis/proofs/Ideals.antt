@@ -1,26 +1,20 @@
 -- Polynomials and their homogenised vectors.
-use Rattle.std.proofs.Common.{◌≡◌, ℕ, ◌*◌, ◌<◌, ◌≤◌, List, [], ◌∷◌, map, length, get_or, refl, sym, ap, subst, arith}
+use Rattle.std.proofs.Common.{◌≡◌, ℕ, ◌*◌, ◌≤◌, List, [], ◌∷◌, map, get_or, refl, sym, ap, subst, arith}
 use Rattle.std.specs.List.{All}
-use Rattle.std.specs.declared.cmp.Ordering.{Ordering}
-use Rattle.std.specs.declared.cmp.Ordering.TheVariants.{Less, Equal, Greater}
-use Rattle.std.specs.Ordering.{nat_cmp, ordering_then}
-use Rattle.std.specs.Cmp.{ranked}
 use Rattle.std.proofs.lemmas.List.Elements.{All-map, Contains-get_or}
 use Rattle.prime_field.specs.Primes.{IsPrime}
-use Rattle.monomials.specs.Mono.{Monomial, total_degree, cmp_last, cmp_dp}
+use Rattle.monomials.specs.Mono.{Monomial}
 use Rattle.polys.specs.declared.term.Term.{Term}
 use Rattle.polys.specs.Poly.{Polynomial, IsVector, IsPlain, terms_of}
-use Rattle.polys.specs.Terms.{EachMono, IsAffine, IsPoly, IsMonic}
+use Rattle.polys.specs.Terms.{EachMono, IsPoly, IsMonic}
 use Rattle.polys.specs.Curve.{IsOver}
 use Rattle.polys.specs.Ideal.{InIdeal}
-use Rattle.polys.specs.Reduced.{IsReducedBasis}
 use Rattle.polys.proofs.Each.{every_more, every_zip}
-use Rattle.graded_modules.specs.Vector.{IsGenerator, degree_at, lead_mono}
+use Rattle.graded_modules.specs.Vector.{IsGenerator, degree_at}
 use Rattle.graded_modules.specs.Module.{InModule}
 use Rattle.graded_modules.specs.Bases.{HasAllLeads, SpanOneModule}
 use Rattle.graded_modules.proofs.Members as Modules
 use Rattle.prime_field.proofs.Table.{above_one}
-use Rattle.graded_modules.proofs.Tops.{tail_below}
 use Rattle.homogenising.specs.Homogenised.{homogenised, dehomogenised, all_homogenised, all_dehomogenised}
 use Rattle.homogenising.specs.Laws.{IsHomogeneousPoly, HomogenisedLaws, DehomogenisedLaws, HasAffineLeads, LeadsStay, LeadsStayLeads, ReducedByAffineLeads}
 use Rattle.module_basis.specs.Gens.{IsHomogeneousOver, homogenised_of}
@@ -28,9 +22,7 @@ use Rattle.module_basis.specs.declared.gens.Gens.{Gens}
 use Rattle.module_basis.specs.Basis.{IsBasis, lowered_of}
 use Rattle.module_division.specs.Division.{IsDivisor}
 use Rattle.module_division.specs.Reduction.{IsInterreduced}
-use Rattle.module_division.proofs.Lists.{divisor_vectors, place_of}
-use Rattle.module_division.proofs.Reductions.{IsTight}
-use Rattle.module_division.proofs.Reduced.{monic_all, covered, rising_all, apart_all, outside_all, polys_all, ideal_all}
+use Rattle.module_division.proofs.Lists.{place_of}
 use Rattle.module_division.proofs.IdealBases.{affine_tight, IsIdealBasis, ideal_basis}
 
 -- ---- homogenised polynomials

@@ -1,15 +1,11 @@
 -- The reduced basis of a graded module, as data of the program.
-use Rattle.std.specs.Prelude.{◌≡◌, ℕ, ◌<◌, ◌≤◌, List, ◌∷◌, map, All, Contains}
-use Rattle.monomials.specs.Mono.{Monomial}
+use Rattle.std.specs.Prelude.{◌≡◌, ℕ, ◌<◌, List, ◌∷◌, All}
 use Rattle.polys.specs.declared.term.Term.{Term}
-use Rattle.polys.specs.Curve.{IsOver}
 use Rattle.polys.specs.Poly.{Polynomial, terms_of}
-use Rattle.polys.specs.Terms.{IsMonic, IsPoly, degree_of, sub}
 use Rattle.homogenising.specs.Homogenised.{with_hom, dehomogenised, all_dehomogenised}
 use Rattle.homogenising.specs.Laws.{IsHomogeneousPoly, HasAffineLeads}
 use Rattle.polys.specs.Ideal.{InIdeal}
 use Rattle.polys.specs.Reduced.{IsReducedBasis}
-use Rattle.graded_modules.specs.Module.{IsLeadMultiple}
 use Rattle.graded_modules.specs.Vector.{degree_at}
 use Rattle.graded_modules.specs.Bases.{IsReduced, SpanOneModule}
 use Rattle.module_basis.specs.declared.gens.Gens.{Gens}

@@ -1,5 +1,5 @@
 -- A basis that grows degree by degree (Buchberger's algorithm; Greuel and Pfister, section on standard bases of modules).
-use Rattle.std.specs.Prelude.{◌≡◌, ◌⊎◌, ℕ, ◌<◌, ◌≤◌, List, [], ◌++◌, length, All, Contains, slice_index_or}
+use Rattle.std.specs.Prelude.{◌≡◌, ◌⊎◌, ℕ, ◌<◌, ◌≤◌, List, ◌++◌, length, All, Contains}
 use Rattle.std.specs.declared.cmp.Ordering.TheVariants.{Less}
 use Rattle.monomials.specs.Mono.{Monomial, cmp_dp}
 use Rattle.polys.specs.declared.term.Term.{Term}

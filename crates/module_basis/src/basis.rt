@@ -8,12 +8,13 @@ ghost use Rattle.graded_modules.specs.Vector.{IsGradedVector, IsGenerator, HasDe
 ghost use Rattle.graded_modules.specs.Deep.{HasHighVector, IsDeep};
 ghost use Rattle.graded_modules.specs.Bases.{SpanOneModule, IsReduced, IsNormalForm};
 ghost use Rattle.module_basis.specs.declared.gens.BasisStop.TheVariants.{Deep};
+ghost use Rattle.module_basis.specs.declared.cap.TheConstants.{MAX_CAP};
 ghost use Rattle.module_basis.specs.Gens.{AreGens};
 ghost use Rattle.homogenising.specs.Laws.{IsHomogeneousPoly};
 ghost use Rattle.module_basis.specs.Basis.{IsBasis, AreOverOneRing, IsHigh, lowered_of, lowered, IsLoweredBasis, HasLoweredLeads};
 
 use crate::growing::Growing;
-use crate::{BasisStop, Gens};
+use crate::{BasisStop, Cap, Gens};
 use homogenising::laws::{ideals_have_bases_by_leads, leads_lose_the_variable, leads_stay_leads};
 use lists::{List, NoMemory};
 use module_division::{degree_at, interreduced_vectors, vector_remainder};
@@ -59,7 +60,7 @@ impl Model for GradedBasis {
 /// Greuel and Pfister, section on standard bases of modules.
 pub fn graded_basis(alloc: Global, gens: &Gens, cap: u32) -> Result<GradedBasis, BasisStop>
     requires gens { AreGens gens.now }
-    requires cap { (1 ≤ cap) × (cap ≤ 1000) }
+    requires cap { (1 ≤ cap) × (cap ≤ MAX_CAP) }
     ensures reduced { IfOk result (λ basis. IsBasis basis) }
     ensures same_ring { IfOk result (λ basis. AreOverOneRing gens.now basis) }
     ensures one_module { IfOk result (λ basis. SpanOneModule gens.now.prime gens.now.variables (terms_of gens.now.vectors) (terms_of basis.vectors)) }
@@ -71,7 +72,7 @@ pub fn graded_basis(alloc: Global, gens: &Gens, cap: u32) -> Result<GradedBasis,
     if has_high_vector(gens.vectors.as_slice(), gens.shift, cap) {
         return Err(BasisStop::Deep);
     }
-    let mut growing = Growing::new(alloc, cap);
+    let mut growing = Growing::new(alloc, Cap::new(cap));
     for e in 0..cap + 1 {
         growing.advance(gens, e)?;
     }

@@ -10,7 +10,7 @@ ghost use Rattle.module_division.specs.Vectors.{member};
 ghost use Rattle.module_basis.specs.Growing.{AreOfOneComponent, IsPair, IsSettledPair, IsAwaited, AreAwaited, IsGrowing, IsReady, GainsPairs, Gains, IsMemberAt, IsNewAt, IsBelowAll, HasHighLeads};
 
 use crate::pairs::{Pair, are_coprime, is_chained, s_vector};
-use crate::{BasisStop, Gens};
+use crate::{BasisStop, Cap, Gens};
 use lists::NoMemory;
 use module_division::{degree_at, lead_mono, vector_remainder};
 use monomials::Mono;
@@ -21,14 +21,14 @@ use std::mem;
 // Monic vectors of which no lead divides another one, and the pairs of them that wait.
 #[derive(Drop)]
 pub(crate) struct Growing {
-    pub(crate) cap: u32,
+    pub(crate) cap: Cap,
     pub(crate) basis: Vec<Poly>,
     pub(crate) pairs: Vec<Pair>,
 }
 
 impl Growing {
     // No vector yet.
-    pub(crate) fn new(alloc: Global, cap: u32) -> Growing
+    pub(crate) fn new(alloc: Global, cap: Cap) -> Growing
         ensures cap { result.cap ≡ cap }
         ensures basis { result.basis.items ≡ [] }
         ensures pairs { result.pairs.items ≡ [] }
@@ -43,7 +43,6 @@ impl Growing {
     // Goes from degree e to the next one.
     pub(crate) fn advance(&mut self, gens: &Gens, e: u32) -> Result<(), BasisStop>
         requires gens { AreGens gens.now }
-        requires cap { self.old.cap ≤ 1000 }
         requires degree { e ≤ self.old.cap }
         requires ready { IsReady gens.now e self.old }
         ensures ready { OnOk result (IsReady gens.now (e + 1) self.new) }
@@ -60,7 +59,6 @@ impl Growing {
     // Takes in the generators of degree e.
     fn take_generators(&mut self, gens: &Gens, e: u32) -> Result<(), BasisStop>
         requires gens { AreGens gens.now }
-        requires cap { self.old.cap ≤ 1000 }
         requires degree { e ≤ self.old.cap }
         requires growing { IsGrowing gens.now e self.old }
         ensures growing { OnOk result (IsGrowing gens.now e self.new) }
@@ -79,7 +77,6 @@ impl Growing {
     // Takes in the generator, if it has degree e.
     fn take_generator(&mut self, gens: &Gens, v: &Poly, e: u32) -> Result<(), BasisStop>
         requires gens { AreGens gens.now }
-        requires cap { self.old.cap ≤ 1000 }
         requires degree { e ≤ self.old.cap }
         requires growing { IsGrowing gens.now e self.old }
         requires vector { IsHomogeneousOver gens.now.prime gens.now.variables gens.now.shift v.now }
@@ -100,7 +97,6 @@ impl Growing {
     // Settles the pairs of degree e; later ones go on waiting. New pairs have degrees above e.
     fn settle_pairs(&mut self, gens: &Gens, e: u32) -> Result<(), BasisStop>
         requires gens { AreGens gens.now }
-        requires cap { self.old.cap ≤ 1000 }
         requires degree { e ≤ self.old.cap }
         requires ready { IsReady gens.now e self.old }
         ensures growing { OnOk result (IsGrowing gens.now e self.new) }
@@ -122,7 +118,6 @@ impl Growing {
     // Settles the pair, if it has degree e, or lets it go on waiting.
     fn go_through(&mut self, gens: &Gens, pair: Pair, e: u32) -> Result<(), BasisStop>
         requires gens { AreGens gens.now }
-        requires cap { self.old.cap ≤ 1000 }
         requires low { e ≤ self.old.cap }
         requires growing { IsGrowing gens.now e self.old }
         requires pair { IsPair gens.now.shift (terms_of self.old.basis.items) pair }
@@ -143,7 +138,6 @@ impl Growing {
     // Settles the pair of degree e, unless a criterion says that it is.
     fn settle(&mut self, gens: &Gens, pair: Pair, e: u32) -> Result<(), BasisStop>
         requires gens { AreGens gens.now }
-        requires cap { self.old.cap ≤ 1000 }
         requires low { e ≤ self.old.cap }
         requires growing { IsGrowing gens.now e self.old }
         requires pair { IsPair gens.now.shift (terms_of self.old.basis.items) pair }
@@ -154,6 +148,7 @@ impl Growing {
         ensures deep { IfErr result (λ stop. stop ≡ Deep → HasHighLeads gens.now self.old.cap) }
     {
         let _prime = gens.prime.get();
+        let _cap = self.cap.get();
         if is_chained(gens, &self.basis, pair) {
             return Ok(());
         }
@@ -165,7 +160,6 @@ impl Growing {
     // Takes in what the basis leaves of a vector of degree e, unless that is 0.
     fn take(&mut self, gens: &Gens, v: Vec<Term>, e: u32) -> Result<(), BasisStop>
         requires gens { AreGens gens.now }
-        requires cap { self.old.cap ≤ 1000 }
         requires degree { e ≤ self.old.cap }
         requires growing { IsGrowing gens.now e self.old }
         requires vector { IsMemberAt gens.now e v.items }
@@ -176,6 +170,7 @@ impl Growing {
         ensures deep { IfErr result (λ stop. stop ≡ Deep → HasHighLeads gens.now self.old.cap) }
     {
         let _prime = gens.prime.get();
+        let _cap = self.cap.get();
         let alloc = *self.basis.allocator();
         let rest = vector_remainder(alloc, gens.prime, v, &self.basis)?;
         if rest.is_empty() {
@@ -189,7 +184,6 @@ impl Growing {
     // Adds a monic vector of degree e whose lead is no multiple of a lead.
     fn add(&mut self, gens: &Gens, b: Poly, e: u32) -> Result<(), BasisStop>
         requires gens { AreGens gens.now }
-        requires cap { self.old.cap ≤ 1000 }
         requires degree { e ≤ self.old.cap }
         requires growing { IsGrowing gens.now e self.old }
         requires fresh { IsNewAt gens.now e (terms_of self.old.basis.items) b }
@@ -225,7 +219,6 @@ impl Growing {
     // Forms the pairs of the last vector, which has the degree e, with the others.
     fn pair_up(&mut self, gens: &Gens, e: u32) -> Result<(), BasisStop>
         requires gens { AreGens gens.now }
-        requires cap { self.old.cap ≤ 1000 }
         requires degree { e ≤ self.old.cap }
         requires growing { IsGrowing gens.now e self.old }
         requires some { 0 < length self.old.basis.items }
@@ -245,7 +238,6 @@ impl Growing {
     // Lets the pair wait, where it is one and the product criterion does not settle it. The second vector has degree e.
     fn join(&mut self, gens: &Gens, first: usize, second: usize, e: u32) -> Result<(), BasisStop>
         requires gens { AreGens gens.now }
-        requires cap { self.old.cap ≤ 1000 }
         requires degree { e ≤ self.old.cap }
         requires growing { IsGrowing gens.now e self.old }
         requires rising { first < second }
@@ -257,6 +249,7 @@ impl Growing {
         ensures deep { IfErr result (λ stop. stop ≡ Deep → HasHighLeads gens.now self.old.cap) }
     {
         let _prime = gens.prime.get();
+        let cap = self.cap.get();
         let f = &self.basis[first];
         let g = &self.basis[second];
         let a = lead_mono(f);
@@ -266,7 +259,7 @@ impl Growing {
         }
         let m = Mono::lcm(&a, &b);
         let degree = degree_at(gens.shift, &m);
-        if degree > u64::from(self.cap) {
+        if degree > u64::from(cap) {
             return Err(BasisStop::Deep);
         }
         if are_coprime(f, g, &m) {

@@ -2,10 +2,12 @@
 #![tactic(auto)]
 
 mod basis;
+mod cap;
 mod gens;
 mod growing;
 mod pairs;
 
 pub use basis::{GradedBasis, graded_basis};
+pub use cap::{Cap, MAX_CAP};
 pub use gens::{BasisStop, Gens};
 pub use module_division::{interreduced, remainder};

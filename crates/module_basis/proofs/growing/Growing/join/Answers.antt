@@ -24,7 +24,8 @@ lcm-m-requires-clause-room c =
     let hj : c.args.second < length fs = c.requires.inside in
     let a = low_lead gens c.args.e fs c.args.first c.index-f.result.now c.requires.growing.grown (omega arith) c.index-f.ensures in
     let b = low_lead gens c.args.e fs c.args.second c.index-g.result.now c.requires.growing.grown hj c.index-g.ensures in
-    let cap = c.requires.cap in
+    let k = c.get-cap.ensures.within in
+    let cap = c.get-cap.ensures.value in
     let low = c.requires.degree in
     rw (c.lead_mono-a.ensures, c.lead_mono-b.ensures) (omega (arith, total_max (lead_mono c.index-f.result.now.terms).exponents (lead_mono c.index-g.result.now.terms).exponents))
 

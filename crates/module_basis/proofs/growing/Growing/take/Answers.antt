@@ -20,7 +20,8 @@ some r h e = h (ap length e)
 pub vector_remainder-requires-clause-divisors : goal.vector_remainder-requires-clause-divisors
 vector_remainder-requires-clause-divisors c =
     let h = c.requires.degree in
-    let k = c.requires.cap in
+    let k = c.get-cap.ensures.within in
+    let cap = c.get-cap.ensures.value in
     rw c.deref.ensures.value (divisors c.args.gens.now c.args.e c.args.self.now (omega arith) c.requires.growing)
 
 pub returns-then-is_empty-clause-gains : goal.returns-then-is_empty-clause-gains
@@ -32,7 +33,8 @@ kept : (c : In_ok-rest) → length c.in_ok-rest.rest.items ≡ 0
     × IsBelowAll c.args.gens.now c.args.e (terms_of c.args.self.now.basis.items) c.args.v.items
 kept c none =
     let h = c.requires.degree in
-    let k = c.requires.cap in
+    let k = c.get-cap.ensures.within in
+    let cap = c.get-cap.ensures.value in
     let rest = c.in_ok-rest.rest.items in
     keeps_all c.args.gens.now c.args.e (omega arith) (subst IsPrime c.get-prime.ensures.value c.get-prime.ensures.prime) c.args.self.now c.requires.growing c.args.v.items rest c.requires.vector
     (subst (λ xs. Reduces c.args.gens.now.prime (terms_of xs) c.args.v.items rest) c.deref.ensures.value c.in_ok-rest.ensures.reduces) c.in_ok-rest.ensures.known
@@ -42,7 +44,8 @@ kept c none =
 added : (c : In_ok-b) → AddsRest c.args.gens.now c.args.e c.args.self.now c.args.v.items c.in_ok-b.b
 added c =
     let h = c.requires.degree in
-    let k = c.requires.cap in
+    let k = c.get-cap.ensures.within in
+    let cap = c.get-cap.ensures.value in
     let rest = c.in_ok-rest.rest.items in
     let z = eqb-false (vec_len c.in_ok-rest.rest) 0 (sym c.if-is_empty.ensures) in
     adds_rest c.args.gens.now c.args.e (omega arith) (subst IsPrime c.get-prime.ensures.value c.get-prime.ensures.prime) c.args.self.now c.requires.growing c.args.v.items rest c.requires.vector
