@@ -77,16 +77,12 @@ fn polynomial(alloc: Global, p: Prime, numbers: &mut Numbers) -> Result<Poly, No
     Ok(sum)
 }
 
-// Whether no term has the homogenising variable or the second component.
+// Whether this is a polynomial in the six variables.
 fn is_affine(f: &Poly) -> bool
     ensures { IsTrue result → IsPoly f.now.prime 6 f.now.terms }
 {
-    for t in f.terms() {
-        if t.mono.hom() != 0 || t.mono.component() != 0 {
-            return false;
-        }
-    }
-    true
+    let _terms = f.terms();
+    f.is_affine()
 }
 
 // Puts the polynomial at the end, unless it is not affine.

@@ -5,17 +5,17 @@ ghost use Rattle.jacobian_pick.specs.Lists.{IsBasisOf, IsUpTo};
 ghost use Rattle.problem.specs.Problem.{IsReady, problem_data, curve_of};
 ghost use Rattle.jacobian_pick.specs.declared.choosing.PickStop.TheVariants.{Memory};
 ghost use Rattle.lift_colon.specs.Lifted.{IsLifted};
+ghost use Rattle.module_basis.specs.declared.cap.TheConstants.{MAX_CAP};
 ghost use Rattle.polys.specs.Poly.{terms_of};
 ghost use Rattle.polys.specs.Curve.{Fit, HasDimModulo, IsOver, data_of};
 ghost use Rattle.polys.specs.declared.term.Term.{Term};
 
-use crate::jacobian::one;
 use crate::listing::candidates;
 use crate::membership::{is_member, variables_of};
 use lift_colon::{Dimension, Lifted};
 use lists::{List, NoMemory};
-use module_basis::BasisStop;
-use polys::Poly;
+use module_basis::{BasisStop, MAX_CAP};
+use polys::{Poly, copied};
 use problem::Problem;
 use std::alloc::Global;
 use thiserror::Error;
@@ -64,7 +64,7 @@ impl From<NoMemory> for PickStop {
 pub fn ideal_basis(alloc: Global, problem: &Problem, cap: u32) -> Result<List<Poly>, PickStop>
     requires ready { IsReady problem.now }
     requires some_cap { 1 ≤ cap }
-    requires cap { cap ≤ 1000 }
+    requires cap { cap ≤ MAX_CAP }
     ensures basis { IfOk result (λ basis. IsBasisOf problem.now basis) }
     ensures not_deep { IfOk result (λ basis. HasDeepIdeal (problem_data problem.now) cap → ⊥) }
     ensures cause { IfErr result (λ stop. IsCause (problem_data problem.now) cap stop) }
@@ -75,17 +75,6 @@ pub fn ideal_basis(alloc: Global, problem: &Problem, cap: u32) -> Result<List<Po
         Err(BasisStop::Deep) => Err(PickStop::Deep),
         Err(BasisStop::Memory) => Err(PickStop::Memory),
     }
-}
-
-// Copies of the polynomials.
-fn copied(alloc: Global, list: &[Poly]) -> Result<List<Poly>, NoMemory>
-    ensures { IfOk result (λ copies. copies ≡ list.now) }
-{
-    let mut copies = List::new(alloc);
-    for f in list {
-        copies.push(f.clone_poly()?)?;
-    }
-    Ok(copies)
 }
 
 // The bases for the denominator `d`, or why it is not good.
@@ -101,7 +90,7 @@ fn tried(
     requires denominator { IsOver problem.now.prime (length problem.now.letters) d.now }
     requires not_deep { HasDeepIdeal (problem_data problem.now) cap → ⊥ }
     requires some_cap { 1 ≤ cap }
-    requires cap { cap ≤ 1000 }
+    requires cap { cap ≤ MAX_CAP }
     ensures lifted { IfOk result (λ l. IsLiftedOf (problem_data problem.now) l) }
     ensures known { IfOk result (λ l. IsLifted l) }
     ensures denominator { IfOk result (λ l. l.denominator ≡ d.now) }
@@ -147,7 +136,7 @@ fn first_good(
     requires list { All (IsUpTo problem.now.prime (length problem.now.letters) 119) list.now }
     requires not_deep { HasDeepIdeal (problem_data problem.now) cap → ⊥ }
     requires some_cap { 1 ≤ cap }
-    requires cap { cap ≤ 1000 }
+    requires cap { cap ≤ MAX_CAP }
     ensures found { IfOk result (λ found. IfSome found (λ l. IsFound (problem_data problem.now) cap (terms_of list.now) l)) }
     ensures none { IfOk result (λ found. IsNone found → All (λ d. IsGood (problem_data problem.now) cap d → ⊥) (terms_of list.now)) }
 {
@@ -176,7 +165,7 @@ fn by_candidates(
     requires none { problem.now.denominator ≡ None }
     requires proper { HasProperIdeal (problem_data problem.now) cap }
     requires some_cap { 1 ≤ cap }
-    requires cap { cap ≤ 1000 }
+    requires cap { cap ≤ MAX_CAP }
     ensures found { IfOk result (λ l. IsPicked (problem_data problem.now) cap l) }
     ensures cause { IfErr result (λ stop. IsCause (problem_data problem.now) cap stop) }
 {
@@ -200,7 +189,7 @@ fn by_hand(
     requires given { problem.now.denominator ≡ Some d.now }
     requires proper { HasProperIdeal (problem_data problem.now) cap }
     requires some_cap { 1 ≤ cap }
-    requires cap { cap ≤ 1000 }
+    requires cap { cap ≤ MAX_CAP }
     ensures found { IfOk result (λ l. IsPicked (problem_data problem.now) cap l) }
     ensures cause { IfErr result (λ stop. IsCause (problem_data problem.now) cap stop) }
 {
@@ -220,7 +209,7 @@ fn by_hand(
 pub fn pick(alloc: Global, problem: &Problem, cap: u32) -> Result<Lifted, PickStop>
     requires ready { IsReady problem.now }
     requires some_cap { 1 ≤ cap }
-    requires cap { cap ≤ 1000 }
+    requires cap { cap ≤ MAX_CAP }
     ensures lifted { IfOk result (λ l. IsLiftedOf (problem_data problem.now) l) }
     ensures proper { IfOk result (λ l. HasProperIdeal (problem_data problem.now) cap) }
     ensures chosen { IfOk result (λ l. IsChosen (problem_data problem.now) cap l.denominator.terms) }
@@ -234,7 +223,7 @@ pub fn pick(alloc: Global, problem: &Problem, cap: u32) -> Result<Lifted, PickSt
     ensures complete { HasProperIdeal (problem_data problem.now) cap → (d : List Term) → IsChosen (problem_data problem.now) cap d → MatchResult result (λ l. l.denominator.terms ≡ d) (λ stop. stop ≡ Memory) }
 {
     let basis = ideal_basis(alloc, problem, cap)?;
-    if is_member(problem, basis.as_slice(), &one(alloc, problem.prime)?)? {
+    if is_member(problem, basis.as_slice(), &Poly::one(alloc, problem.prime)?)? {
         return Err(PickStop::Unit);
     }
     match &problem.denominator {

@@ -1,4 +1,3 @@
-mod Affine
 mod Vectors
 mod Members
 mod Bases

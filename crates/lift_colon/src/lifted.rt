@@ -1,8 +1,9 @@
 // An ideal and a denominator with the bases that decide about them.
-ghost use Rattle.std.specs.Prelude.{◌≡◌, ℕ, ◌<◌, ◌≤◌, ◌+◌, ◌↔◌, ◌∷◌, All, IfOk, IfErr, IsTrue, IsNone, IfSome};
+ghost use Rattle.std.specs.Prelude.{◌≡◌, ℕ, ◌<◌, ◌≤◌, ◌↔◌, ◌∷◌, All, IfOk, IfErr, IsTrue, IsNone, IfSome};
 ghost use Rattle.lift_colon.specs.Lifted.{IsLifted, IsDeepWith, IsDimension, IsLift, HasDimension, HasInfiniteDimension};
 ghost use Rattle.lift_colon.specs.declared.lifted.TheConstants.{LARGEST_DIMENSION};
 ghost use Rattle.polys.specs.Poly.{terms_of};
+ghost use Rattle.module_basis.specs.declared.cap.TheConstants.{MAX_CAP};
 ghost use Rattle.module_basis.specs.declared.gens.BasisStop.TheVariants.{Deep};
 ghost use Rattle.denominator_module.specs.Module.{module_of, IsDeepDenominator};
 ghost use Rattle.graded_modules.specs.Bases.{SpanOneModule};
@@ -19,8 +20,8 @@ use crate::parts::{colon_part, module_gens, sum_part};
 use denominator_module::{first_part, second_part};
 use homogenising::{dehomogenised, homogenised_to};
 use lists::{List, NoMemory};
-use module_basis::{BasisStop, Gens, GradedBasis, graded_basis, interreduced};
-use polys::Poly;
+use module_basis::{BasisStop, Gens, GradedBasis, MAX_CAP, graded_basis, interreduced};
+use polys::{Poly, are_same};
 use prime_field::Prime;
 use standard_monomials::{Dimension, dimension_modulo};
 use std::alloc::Global;
@@ -74,7 +75,7 @@ pub fn ideal_basis(
     requires six_variables { variables ≤ 6 }
     requires ideal { All (IsOver prime variables) ideal.now }
     requires some_cap { 1 ≤ cap }
-    requires cap { cap ≤ 1000 }
+    requires cap { cap ≤ MAX_CAP }
     ensures over { IfOk result (λ fs. All (IsOver prime variables) fs) }
     ensures basis { IfOk result (λ fs. IsReducedBasis prime variables (InIdeal prime variables (terms_of ideal.now)) (terms_of fs)) }
     ensures not_deep { IfOk result (λ fs. IsDeep prime variables 0 (all_homogenised (terms_of ideal.now)) cap → ⊥) }
@@ -101,7 +102,7 @@ fn denominator_basis(
     requires denominator { IsOver prime variables d.now }
     requires room { degree_of d.now.terms ≤ 60000 }
     requires some_cap { 1 ≤ cap }
-    requires cap { cap ≤ 1000 }
+    requires cap { cap ≤ MAX_CAP }
     ensures ring { IfOk result (λ b. (b.prime ≡ prime) × (b.variables ≡ variables) × (b.shift ≡ degree_of d.now.terms)) }
     ensures span { IfOk result (λ b. SpanOneModule prime variables (module_of d.now.terms (terms_of ideal.now)) (terms_of b.vectors)) }
     ensures low { IfOk result (λ b. All (λ f. degree_at (degree_of d.now.terms) (lead_mono f) ≤ cap) (terms_of b.vectors)) }
@@ -131,7 +132,7 @@ fn of_module(
     requires ideal { IsReducedBasis prime variables (InIdeal prime variables (terms_of generators.now)) (terms_of ideal) }
     requires ring { (graded.prime ≡ prime) × (graded.variables ≡ variables) × (graded.shift ≡ degree_of d.now.terms) }
     requires span { SpanOneModule prime variables (module_of d.now.terms (terms_of generators.now)) (terms_of graded.vectors) }
-    requires low { All (λ f. degree_at (degree_of d.now.terms) (lead_mono f) ≤ 1000) (terms_of graded.vectors) }
+    requires low { All (λ f. degree_at (degree_of d.now.terms) (lead_mono f) ≤ MAX_CAP) (terms_of graded.vectors) }
     ensures data { IfOk result (λ l. (l.prime ≡ prime) × (l.variables ≡ variables) × (l.denominator ≡ d.now) × (l.ideal ≡ ideal)) }
 {
     let vectors = graded.vectors();
@@ -171,7 +172,7 @@ impl Lifted {
         requires ideal { All (IsOver prime variables) ideal.now }
         requires denominator { IsOver prime variables d.now }
         requires some_cap { 1 ≤ cap }
-        requires cap { cap ≤ 1000 }
+        requires cap { cap ≤ MAX_CAP }
         ensures data { IfOk result (λ l. (l.prime ≡ prime) × (l.variables ≡ variables) × (l.denominator ≡ d.now)) }
         ensures ideal { IfOk result (λ l. IsReducedBasis prime variables (InIdeal prime variables (terms_of ideal.now)) (terms_of l.ideal)) }
         ensures not_deep { IfOk result (λ l. IsDeepWith prime variables ideal.now d.now cap → ⊥) }
@@ -202,7 +203,7 @@ impl Lifted {
         requires basis { IsReducedBasis prime variables (InIdeal prime variables (terms_of generators.now)) (terms_of basis) }
         requires denominator { IsOver prime variables d.now }
         requires some_cap { 1 ≤ cap }
-        requires cap { cap ≤ 1000 }
+        requires cap { cap ≤ MAX_CAP }
         ensures data { IfOk result (λ l. (l.prime ≡ prime) × (l.variables ≡ variables) × (l.denominator ≡ d.now) × (l.ideal ≡ basis)) }
         ensures not_deep { IfOk result (λ l. IsDeepDenominator prime variables d.now.terms (terms_of generators.now) cap → ⊥) }
         ensures deep { IfErr result (λ stop. stop ≡ Deep → IsDeepDenominator prime variables d.now.terms (terms_of generators.now) cap) }
@@ -280,7 +281,7 @@ impl Lifted {
         ensures some { IfOk result (λ u. IfSome u (λ u. (u.prime ≡ self.now.prime) × IsLift self.now g.now.terms u.terms)) }
         ensures none { IfOk result (λ u. IsNone u ↔ (InIdeal self.now.prime self.now.variables (self.now.denominator.terms ∷ terms_of self.now.ideal) g.now.terms → ⊥)) }
     {
-        let high = homogenised_to(alloc, self.variables, g.degree() + 1000, g)?;
+        let high = homogenised_to(alloc, self.variables, g.degree() + MAX_CAP, g)?;
         let rest = self.graded.normal_form(&high)?;
         if first_part(alloc, &rest)?.lead().is_some() {
             return Ok(None);
@@ -305,21 +306,6 @@ impl Lifted {
     {
         dimension_modulo(alloc, self.prime, self.variables, self.sum_basis(), limit)
     }
-}
-
-// Whether two lists of polynomials are equal.
-fn are_same(a: &[Poly], b: &[Poly]) -> bool
-    ensures { IsTrue result ↔ (a.now ≡ b.now) }
-{
-    if a.len() != b.len() {
-        return false;
-    }
-    for i in 0..a.len() {
-        if !a[i].same(&b[i]) {
-            return false;
-        }
-    }
-    true
 }
 
 #[cfg(test)]

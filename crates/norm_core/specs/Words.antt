@@ -1,5 +1,6 @@
 -- The words after the program's name.
 use Rattle.std.specs.Prelude.{ℕ, ◌≡◌, ◌≤◌, List, [], ◌∷◌, ◌++◌, length, codes, IsTrue}
+use Rattle.module_basis.specs.declared.cap.TheConstants.{MAX_CAP}
 use Rattle.poly_text.specs.Digits.{number}
 use Rattle.problem_form.specs.Words.{is_number}
 
@@ -9,7 +10,7 @@ pub record IsCap (word : List ℕ) (cap : ℕ) : Type 0 where
   pub short : length word ≤ 4
   pub value : number word ≡ cap
   pub some : 1 ≤ cap
-  pub most : cap ≤ 1000
+  pub most : cap ≤ MAX_CAP
 
 -- the words ask for the answer under this cap: `alone` with no option, where the cap is 200, or with `--degree` and its value
 -- in one word or two

@@ -1,5 +1,6 @@
 // From the source to what is to be told.
 ghost use Rattle.std.specs.Prelude.{◌≡◌, ◌⊎◌, ℕ, List, ◌≤◌, length, Some, IfOk, IfErr};
+ghost use Rattle.module_basis.specs.declared.cap.TheConstants.{MAX_CAP};
 ghost use Rattle.norm_outside.specs.Causes.{Rose};
 ghost use Rattle.norm_core.specs.Refusals.{line_of, status_of};
 ghost use Rattle.norm_core.specs.Telling.{Tells, Told, HasAnswer, HasStatus, byte_limit};
@@ -18,7 +19,7 @@ const BYTE_LIMIT: usize = 1048576;
 fn answer_to(alloc: Global, cap: u32, input: &[u8]) -> Result<List<u8>, Refusal>
     requires short { length input.now ≤ byte_limit }
     requires some_cap { 1 ≤ cap }
-    requires cap { cap ≤ 1000 }
+    requires cap { cap ≤ MAX_CAP }
     ensures answered { IfOk result (λ text. Tells cap input.now 0 text) }
     ensures refused { IfErr result (λ refusal. (status_of refusal ≡ 30) ⊎ Tells cap input.now (status_of refusal) (line_of refusal)) }
     ensures exact { (status : ℕ) (text : List ℕ) → Tells cap input.now status text → HasStatus result status }
@@ -31,7 +32,7 @@ fn answer_to(alloc: Global, cap: u32, input: &[u8]) -> Result<List<u8>, Refusal>
 /// The answer to the problem that a source gives, under the degree cap, or why there is none.
 pub fn answer<S: Source>(alloc: Global, cap: u32, source: &mut S) -> Result<List<u8>, Refusal>
     requires some_cap { 1 ≤ cap }
-    requires cap { cap ≤ 1000 }
+    requires cap { cap ≤ MAX_CAP }
     ensures answered { IfOk result (λ text. Told cap (S.left source.old) (S.left source.new) 0 text) }
     ensures refused { IfErr result (λ refusal. (status_of refusal ≡ 30) ⊎ ((status_of refusal ≡ 20) × Rose (S.faults source.old) (S.faults source.new)) ⊎ Told cap (S.left source.old) (S.left source.new) (status_of refusal) (line_of refusal)) }
     ensures exact { (input text : List ℕ) (status : ℕ) → S.left source.old ≡ Some input → Tells cap input status text → HasStatus result status }

@@ -1,6 +1,7 @@
 // From a problem to its answer.
 ghost use Rattle.std.specs.Prelude.{◌≡◌, ◌≢◌, ◌↔◌, ◌≤◌, ◌⊎◌, ℕ, [], ◌∷◌, All, IfOk, IfErr, IsTrue, false};
 ghost use Rattle.lift_colon.specs.Lifted.{HasDimension};
+ghost use Rattle.module_basis.specs.declared.cap.TheConstants.{MAX_CAP};
 ghost use Rattle.problem.specs.Problem.{IsFitProblem, problem_data};
 ghost use Rattle.norm_text.specs.Answer.{answer_text};
 ghost use Rattle.norm_text.specs.Plain.{plain_answer};
@@ -78,7 +79,7 @@ fn plain_text(alloc: Global, problem: Problem, denominator: &Poly) -> Result<Lis
 pub fn solve(alloc: Global, problem: Problem, cap: u32) -> Result<List<u8>, Refusal>
     requires fit { IsFitProblem problem }
     requires some_cap { 1 ≤ cap }
-    requires cap { cap ≤ 1000 }
+    requires cap { cap ≤ MAX_CAP }
     ensures answered { IfOk result (λ text. Solves (problem_data problem) cap 0 text) }
     ensures refused { IfErr result (λ refusal. (status_of refusal ≡ 30) ⊎ Solves (problem_data problem) cap (status_of refusal) (line_of refusal)) }
     ensures exact { (status : ℕ) (text : List ℕ) → Solves (problem_data problem) cap status text → HasStatus result status }

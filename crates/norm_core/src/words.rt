@@ -2,13 +2,11 @@
 ghost use Rattle.std.specs.Prelude.{◌≡◌, ℕ, List, ◌∷◌, ◌++◌, map, string_bytes, codes, length, IfSome, IsTrue, ◌↔◌, Some};
 ghost use Rattle.norm_core.specs.Words.{IsCap, AskUnder};
 
+use module_basis::MAX_CAP;
 use singular_text::{is_number, number_up_to};
 
 // The cap where no option is given.
 const DEFAULT_CAP: u32 = 200;
-
-// The greatest cap.
-const GREATEST_CAP: u32 = 1000;
 
 // The cap that a word writes.
 fn cap_of(word: &[u8]) -> Option<u32>
@@ -18,8 +16,8 @@ fn cap_of(word: &[u8]) -> Option<u32>
     if word.len() > 4 || !is_number(word) {
         return None;
     }
-    let cap = number_up_to(GREATEST_CAP + 1, word);
-    if cap == 0 || cap > GREATEST_CAP {
+    let cap = number_up_to(MAX_CAP + 1, word);
+    if cap == 0 || cap > MAX_CAP {
         return None;
     }
     Some(cap)

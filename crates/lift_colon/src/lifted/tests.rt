@@ -3,7 +3,7 @@ ghost use Rattle.std.specs.Prelude.{◌≡◌, All, IfOk, IfSome, IsTrue, OnOk};
 ghost use Rattle.polys.specs.Curve.{IsOver};
 ghost use Rattle.polys.specs.Terms.{IsPoly};
 
-use super::Lifted;
+use super::{Lifted, ideal_basis};
 use lists::List;
 use module_basis::BasisStop;
 use monomials::Mono;
@@ -19,16 +19,12 @@ type Row = (u32, u32, u32);
 // A polynomial.
 type Rows<'a> = &'a [Row];
 
-// Whether no term has the homogenising variable or the second component.
+// Whether this is a polynomial in the six variables.
 fn is_affine(f: &Poly) -> bool
     ensures { IsTrue result → IsPoly f.now.prime 6 f.now.terms }
 {
-    for t in f.terms() {
-        if t.mono.hom() != 0 || t.mono.component() != 0 {
-            return false;
-        }
-    }
-    true
+    let _terms = f.terms();
+    f.is_affine()
 }
 
 // The monomial x^i y^j, with exponents of at most 100.
@@ -186,6 +182,7 @@ fn sums_and_colons(rt: HostRuntime) -> Result<(), Fail> {
     let x: Rows = &[(1, 1, 0)];
     let y: Rows = &[(1, 0, 1)];
     let cusp: Rows = &[(1, 3, 0), (6, 0, 2)];
+    let square: Rows = &[(1, 2, 0)];
     let squares: Rows = &[(1, 0, 2)];
     let cross: Rows = &[(1, 1, 1)];
     let doubled: Rows = &[(3, 2, 1)];
@@ -196,6 +193,53 @@ fn sums_and_colons(rt: HostRuntime) -> Result<(), Fail> {
     assert!(rt; has_bases(alloc, p, doubled, x, &[&[product], &[x], &[cross]], false)?);
     assert!(rt; has_bases(alloc, p, cusp, one, &[&[cusp], &[one], &[cusp]], true)?);
     assert!(rt; has_bases(alloc, p, y, cross, &[&[y], &[y], &[one]], false)?);
+    // a zero divisor
+    assert!(rt; has_bases(alloc, p, square, x, &[&[square], &[x], &[x]], false)?);
+    Ok(())
+}
+
+// The bases of the ideal of two generators and of d, by the reduced basis of the ideal, or nothing where they are deep.
+fn by_a_basis(
+    alloc: Global,
+    p: Prime,
+    generators: [Rows; 2],
+    d: Rows,
+    cap: u32,
+) -> Result<Option<Lifted>, Fail> {
+    if cap < 1 || cap > 1000 {
+        return Err("no cap".into());
+    }
+    let mut ideal = List::new(alloc);
+    put(alloc, p, generators[0], &mut ideal)?;
+    put(alloc, p, generators[1], &mut ideal)?;
+    let d = polynomial(alloc, p, d)?;
+    let basis = match ideal_basis(alloc, p, 6, ideal.as_slice(), cap) {
+        Ok(basis) => basis,
+        Err(BasisStop::Deep) => return Ok(None),
+        Err(BasisStop::Memory) => return Err("no memory".into()),
+    };
+    match Lifted::over_basis(alloc, p, 6, ideal.as_slice(), basis, &d, cap) {
+        Ok(l) => Ok(Some(l)),
+        Err(BasisStop::Deep) => Ok(None),
+        Err(BasisStop::Memory) => Err("no memory".into()),
+    }
+}
+
+#[test]
+fn bases_by_a_basis(rt: HostRuntime) -> Result<(), Fail> {
+    let alloc = rt.alloc();
+    let p = Prime::new(7).ok_or("7 is in the table")?;
+    let x: Rows = &[(1, 1, 0)];
+    let y: Rows = &[(1, 0, 1)];
+    let square: Rows = &[(1, 2, 0)];
+    let cross: Rows = &[(1, 1, 1)];
+    let both: Rows = &[(3, 2, 0), (2, 1, 1)];
+    let l = by_a_basis(alloc, p, [both, cross], y, 100)?.ok_or("deep")?;
+    assert!(rt; are_rows(alloc, p, l.ideal_basis(), &[cross, square])?);
+    assert!(rt; are_rows(alloc, p, l.sum_basis(), &[y, square])?);
+    assert!(rt; are_rows(alloc, p, l.colon_gens(), &[x])?);
+    assert!(rt; !l.is_regular()?);
+    assert!(rt; by_a_basis(alloc, p, [both, cross], y, 1)?.is_none());
     Ok(())
 }
 

@@ -1,7 +1,7 @@
 -- The dimension that was counted is 0 if and only if nothing is left.
 use Rattle.std.proofs.Common.{◌≡◌, ℕ, subst, sym, ◌∙◌, arith, eq-eqb, eqb-true}
 use Rattle.lift_colon.specs.Lifted.{HasDimension}
-use Rattle.standard_monomials.specs.declared.finding.Dimension.TheVariants.{Finite}
+use Rattle.standard_monomials.specs.declared.finding.Dimension.TheVariants.{Finite, Wide}
 use Rattle.norm_core.proofs.solving.is_nothing_left.Goals as goal
 
 pub returns-in-Finite : goal.returns-in-Finite
@@ -14,3 +14,9 @@ returns-in-Finite c =
           let same : Finite c.in-Finite.dimension ≡ Finite 0 = sym c.in-Finite.is ∙ counted in
           eq-eqb c.in-Finite.dimension 0 (cc),
     )
+
+pub returns-in-Wide : goal.returns-in-Wide
+returns-in-Wide c = (
+  λ yes. absurd yes,
+  λ h. (let counted = (c.small_dimension.ensures.finite 0).1 (omega arith, h) in let other : Wide ≡ Finite 0 = sym c.in-Wide.is ∙ counted in absurd (cc)),
+)

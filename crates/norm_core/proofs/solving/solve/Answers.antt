@@ -12,8 +12,8 @@ returns-in_err-lifted-clause-refused c =
     let e = err_from_is_err_and c.from_residual.result c.from_residual.ensures.1 in
     cause-refused (problem_data c.args.problem) c.args.cap c.in_err-lifted.field-0.0 c.from_residual.result e.0 e.1 e.2 c.in_err-lifted.ensures.cause
 
-pub returns-then-not-branch-clause-refused : goal.returns-then-not-branch-clause-refused
-returns-then-not-branch-clause-refused c =
+pub returns-then-not-is_served-clause-refused : goal.returns-then-not-is_served-clause-refused
+returns-then-not-is_served-clause-refused c =
     let known = c.in_ok-lifted.ensures in
     let picked : IsPickedOf (problem_data c.args.problem) c.args.cap c.in_ok-lifted.lifted = record {
       lifted = known.lifted;
@@ -23,8 +23,8 @@ returns-then-not-branch-clause-refused c =
     } in
     inr (not_yet c.in_ok-lifted.lifted.denominator.terms picked.has (unserved-by c.args.problem c.args.cap c.in_ok-lifted.lifted picked (c.is_served.ensures.no (cc))) refl refl)
 
-pub returns-then-not-branch-clause-exact : goal.returns-then-not-branch-clause-exact
-returns-then-not-branch-clause-exact c status text solves =
+pub returns-then-not-is_served-clause-exact : goal.returns-then-not-is_served-clause-exact
+returns-then-not-is_served-clause-exact c status text solves =
     let known = c.in_ok-lifted.ensures in
     let picked : IsPickedOf (problem_data c.args.problem) c.args.cap c.in_ok-lifted.lifted = record {
       lifted = known.lifted;
@@ -36,8 +36,8 @@ returns-then-not-branch-clause-exact c status text solves =
     (λ stop not cause. no_error (known.exact stop not cause)) (λ proper d chosen. known.complete proper d chosen)
     (unserved-by c.args.problem c.args.cap c.in_ok-lifted.lifted picked (c.is_served.ensures.no (cc))) status text solves)
 
-pub returns-then-not-branch-clause-complete : goal.returns-then-not-branch-clause-complete
-returns-then-not-branch-clause-complete c d has served =
+pub returns-then-not-is_served-clause-complete : goal.returns-then-not-is_served-clause-complete
+returns-then-not-is_served-clause-complete c d has served =
     let known = c.in_ok-lifted.ensures in
     let picked : IsPickedOf (problem_data c.args.problem) c.args.cap c.in_ok-lifted.lifted = record {
       lifted = known.lifted;
