@@ -1,10 +1,9 @@
 -- The candidates are polynomials of low degree.
-use Rattle.std.proofs.Common.{◌≡◌, ℕ, ◌+◌, ◌-◌, ◌*◌, ◌%◌, ◌<◌, ◌≤◌, min, zero, suc, List, [], ◌∷◌, Bool, true, false, ◌==◌, cond, map, set, get_or, replicate, refl, sym, ap, ◌∙◌, subst, arith}
+use Rattle.std.proofs.Common.{◌≡◌, ℕ, ◌+◌, ◌-◌, ◌*◌, ◌<◌, ◌≤◌, min, zero, suc, List, [], ◌∷◌, Bool, true, false, ◌==◌, cond, map, set, get_or, replicate, refl, sym, ap, ◌∙◌, subst, arith}
 use Rattle.std.proofs.lemmas.Bool.{eqb-false}
 use Rattle.std.proofs.Math.ListN.{length-set}
 use Rattle.std.specs.List.{All, flat_map}
 use Rattle.std.proofs.lemmas.List.Elements.{All-nil, All-cons}
-use native.Mathlib.Nat.{zero-mod}
 use Rattle.monomials.specs.Mono.{Monomial, total_degree, unit, variable}
 use Rattle.monomials.proofs.Order.{times_one}
 use Rattle.polys.specs.declared.term.Term.{Term}

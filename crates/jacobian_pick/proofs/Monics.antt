@@ -1,14 +1,14 @@
 -- A polynomial has one monic multiple.
-use Rattle.std.proofs.Common.{◌≡◌, ℕ, ◌+◌, ◌*◌, ◌%◌, ◌<◌, List, [], ◌∷◌, refl, sym, ap, ◌∙◌, subst, arith}
+use Rattle.std.proofs.Common.{◌≡◌, ℕ, ◌*◌, ◌%◌, ◌<◌, List, [], ◌∷◌, refl, sym, ap, ◌∙◌, subst, arith}
 use Rattle.std.specs.declared.cmp.Ordering.{Ordering}
 use Rattle.std.specs.declared.cmp.Ordering.TheVariants.{Less, Equal, Greater}
 use Rattle.std.proofs.lemmas.Nat.{mul-mod_first, mul-mod_second}
 use native.Mathlib.Nat.{mod-eq_of_lt, zero-mod}
 use Rattle.monomials.specs.Mono.{Monomial, cmp_dp}
-use Rattle.monomials.proofs.Order.{same_dp, self_dp, turn_up}
+use Rattle.monomials.proofs.Order.{same_dp, turn_up}
 use Rattle.polys.specs.declared.term.Term.{Term}
 use Rattle.polys.specs.Terms.{scaled, multiple, IsMonic, IsMonicOf}
-use Rattle.polys.proofs.Weights.{weigh, tie, same, Canon, normal_canon, none_under, weigh-normal, at_head}
+use Rattle.polys.proofs.Weights.{weigh, same, Canon, normal_canon, none_under, weigh-normal, at_head}
 use Rattle.polys.proofs.Units.{weigh-scaled}
 
 -- ---- residues

@@ -264,7 +264,14 @@ fn reasons_without_a_denominator(rt: HostRuntime) -> Result<(), Fail> {
     assert!(rt; stops(alloc, &plane(7, high, Some(x60)), 200, PickStop::Wide)?);
     let cusp: &[Rows] = &[&[(1, [0, 2, 0]), (6, [3, 0, 0])]];
     let deep: Rows = &[(1, [2, 0, 0]), (1, [0, 1, 0])];
-    assert!(rt; stops(alloc, &plane(7, cusp, Some(deep)), 3, PickStop::DenominatorDeep)?);
+    assert!(rt;
+        stops(
+            alloc,
+            &plane(7, cusp, Some(deep)),
+            3,
+            PickStop::DenominatorDeep
+        )?
+    );
     Ok(())
 }
 
