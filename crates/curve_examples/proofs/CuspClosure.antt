@@ -21,7 +21,7 @@ use Rattle.curve_model.proofs.TwoVariables.{mono_of, affine_mono}
 use Rattle.curve_model.proofs.Tests.{on}
 use Rattle.curve_model.proofs.CuspWeights.{curve, weights, at_weight, standard, weigh-standard, CuspSplit, cusp_split}
 use Rattle.curve_laws.proofs.LocalRingLaws.{local_ring_law}
-use Rattle.curve_laws.proofs.OneExponent.{eq_refl, one_sum}
+use Rattle.chain_laws.proofs.OneExponent.{eq_refl, one_sum}
 use Rattle.curve_laws.proofs.PointSetLaws.{whole_at}
 use Rattle.curve_examples.proofs.CuspDimension.{cusp_is_finite}
 use Rattle.curve_examples.proofs.CuspOrders.{sum_at, HasOrder, order_same, integral_order}

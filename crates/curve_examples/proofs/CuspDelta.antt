@@ -7,9 +7,9 @@ use native.Mathlib.Nat.{mul-add-mod_self_left}
 use Rattle.polys.specs.declared.term.Term.{Term}
 use Rattle.polys.specs.Terms.{sub, multiple, normal}
 use Rattle.polys.specs.Ideal.{InIdeal, IsSpanned, number_combination}
-use Rattle.polys.proofs.Weights.{weigh, weigh-append, weigh-normal, mod_plus}
+use Rattle.polys.proofs.Weights.{weigh, weigh-append, weigh-normal, mod_plus, mod_times}
 use Rattle.polys.proofs.Sums.{normal_normal}
-use Rattle.ideal_laws.proofs.Multiples.{mod_times, weigh-multiple}
+use Rattle.ideal_laws.proofs.Multiples.{weigh-multiple}
 use Rattle.ideal_laws.proofs.Ideals.{in_poly}
 use Rattle.ideal_laws.proofs.Unique.{contains_head}
 use Rattle.curve_model.specs.Fraction.{Fraction, IsFraction, over}
@@ -24,13 +24,13 @@ use Rattle.curve_model.proofs.Origin.{is_zero}
 use Rattle.curve_model.proofs.OriginPoint.{origin_is_point}
 use Rattle.curve_model.proofs.Tests.{on, test_member}
 use Rattle.curve_laws.proofs.ClosingLaws.{exact_law}
-use Rattle.curve_laws.proofs.ChainLaws.{transfer}
+use Rattle.chain_laws.proofs.ChainLaws.{transfer}
 use Rattle.curve_laws.proofs.CountingLaws.{counts_law}
 use Rattle.curve_laws.proofs.EnlargingLaws.{enlargement_law}
-use Rattle.curve_laws.proofs.OneExponent.{basis_law}
+use Rattle.chain_laws.proofs.OneExponent.{basis_law}
 use Rattle.curve_laws.proofs.PointSetLaws.{local_at, whole_at}
-use Rattle.curve_laws.proofs.StepLaws.{whole_local}
-use Rattle.curve_examples.proofs.CuspDimension.{cusp_is_finite, gs, four, spanned, weigh-numbers, linear, is_one, both, IsLow, zero_is_low, one_is_low, passes}
+use Rattle.chain_laws.proofs.StepLaws.{whole_local}
+use Rattle.curve_examples.proofs.CuspDimension.{cusp_is_finite, gs, four, spanned, weigh-numbers, linear, is_one, both, IsLinear, zero_is_low, one_is_low, passes}
 use Rattle.curve_examples.proofs.CuspNumerators.{conductor_polys, holds_xy, low_of_member}
 use Rattle.curve_examples.proofs.CuspPower.{origin_list}
 use Rattle.curve_examples.proofs.CuspClosure.{ring, y2_whole, x2_whole, cusp_has_closure}
@@ -75,7 +75,7 @@ six n e =
     sym (mul-add-mod_self_left 7 (5 * n) n) ∙ ap (λ (k : ℕ). k % 7) (b ∙ a) ∙ mod_times 7 6 (0 + 6 * n) 0 e
 
 -- a weight that is 0 from degree 2 on is 0 on a combination that is b modulo I and d
-combined_zero : (u v : ℕ → ℕ) → IsLow u → IsLow v → ((i j : ℕ) → 2 ≤ i + j → u i * v j ≡ 0) → (b : List Term) → InIdeal 7 2 conductor b
+combined_zero : (u v : ℕ → ℕ) → IsLinear u → IsLinear v → ((i j : ℕ) → 2 ≤ i + j → u i * v j ≡ 0) → (b : List Term) → InIdeal 7 2 conductor b
     → (cs : List ℕ) → InIdeal 7 2 gs (sub 7 b (number_combination 7 cs four)) → linear (on (both u v)) cs four % 7 ≡ 0
 combined_zero u v hu hv low b i cs k =
     six (linear (on (both u v)) cs four)

@@ -239,21 +239,21 @@ is_one zero = 0
 is_one (suc n) = is_zero n
 
 -- 0 from 2 on
-abbrev pub IsLow : (ℕ → ℕ) → Type 0
-IsLow u = (n : ℕ) → u (suc (suc n)) ≡ 0
+abbrev pub IsLinear : (ℕ → ℕ) → Type 0
+IsLinear u = (n : ℕ) → u (suc (suc n)) ≡ 0
 
-pub zero_is_low : IsLow is_zero
+pub zero_is_low : IsLinear is_zero
 unfolding is_zero
 zero_is_low n = refl
 
-pub one_is_low : IsLow is_one
+pub one_is_low : IsLinear is_one
 unfolding is_one is_zero
 one_is_low n = refl
 
 abbrev pub both : (ℕ → ℕ) → (ℕ → ℕ) → ℕ → ℕ → ℕ
 both u v i j = u i * v j
 
-module _ (u v : ℕ → ℕ) (a : IsLow u) (b : IsLow v) where
+module _ (u v : ℕ → ℕ) (a : IsLinear u) (b : IsLinear v) where
   square_passes : Passes (on (both u v)) (term_of 1 2 0 ∷ [])
   unfolding weigh
   square_passes i j =

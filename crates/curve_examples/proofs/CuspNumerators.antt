@@ -50,17 +50,17 @@ pub holds_x2 : InIdeal 7 2 conductor x2
 holds_x2 = in_more 7 2 y2 (xy ∷ x2 ∷ []) x2 (in_more 7 2 xy (x2 ∷ []) x2 (in_head 7 2 x2 [] (omega arith) x2_poly))
 
 -- a weight that is 0 on the monomials of degree 2 and more passes
-abbrev IsLow : (Monomial → ℕ) → Type 0
-IsLow χ = (i j : ℕ) → 2 ≤ i + j → χ (mono_of i j) ≡ 0
+abbrev VanishesFromTwoOn : (Monomial → ℕ) → Type 0
+VanishesFromTwoOn χ = (i j : ℕ) → 2 ≤ i + j → χ (mono_of i j) ≡ 0
 
-pub all_pass : (χ : Monomial → ℕ) → IsLow χ → All (Passes χ) conductor
+pub all_pass : (χ : Monomial → ℕ) → VanishesFromTwoOn χ → All (Passes χ) conductor
 unfolding weigh
 all_pass χ h =
     All-cons (Passes χ) y2 (xy ∷ x2 ∷ []) (λ i j. ap (λ (n : ℕ). (1 * n + 0) % 7) (h (i + 0) (j + 2) (omega arith)))
     (All-cons (Passes χ) xy (x2 ∷ []) (λ i j. ap (λ (n : ℕ). (1 * n + 0) % 7) (h (i + 1) (j + 1) (omega arith)))
     (All-cons (Passes χ) x2 [] (λ i j. ap (λ (n : ℕ). (1 * n + 0) % 7) (h (i + 2) (j + 0) (omega arith))) (All-nil (Passes χ))))
 
-pub low_of_member : (χ : Monomial → ℕ) (f : List Term) → IsLow χ → InIdeal 7 2 conductor f → weigh χ f % 7 ≡ 0
+pub low_of_member : (χ : Monomial → ℕ) (f : List Term) → VanishesFromTwoOn χ → InIdeal 7 2 conductor f → weigh χ f % 7 ≡ 0
 low_of_member χ f h i = test_member χ conductor f (all_pass χ h) i
 
 -- ---- leads have degree 2 at least
@@ -75,7 +75,7 @@ no_low_lead t f a b e l i =
     let pos = h.canonical.0 in
     absurd (omega arith)
   where
-    off : IsLow (same t.mono)
+    off : VanishesFromTwoOn (same t.mono)
     off x y q = go (cmp_dp (mono_of x y) t.mono) refl
       where
         go : (r : Ordering) → cmp_dp (mono_of x y) t.mono ≡ r → tie r ≡ 0

@@ -10,7 +10,7 @@ use Rattle.curve_model.proofs.CuspLocal.{product_is_local}
 use Rattle.curve_model.proofs.CuspWeights.{product_is_not_whole}
 use Rattle.curve_model.proofs.OriginPoint.{origin_is_point}
 use Rattle.curve_laws.proofs.EnlargingLaws.{full_law}
-use Rattle.curve_laws.proofs.ChainLaws.{whole, starts_law}
+use Rattle.chain_laws.proofs.ChainLaws.{whole, starts_law}
 use Rattle.curve_examples.proofs.CuspDimension.{cusp_is_finite}
 
 product_poly : IsPoly 7 2 (term_of 1 1 1 ∷ [])

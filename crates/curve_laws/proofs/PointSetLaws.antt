@@ -21,7 +21,7 @@ use Rattle.curve_laws.proofs.LocalRingLaws.{local_ring_law}
 use Rattle.curve_laws.proofs.Locals.{members_poly}
 use Rattle.curve_laws.proofs.ManyPoints.{lift_all, polys_of_points, distinct_up}
 use Rattle.curve_laws.proofs.Scalars.{scalar, dimension, point_laws}
-use Rattle.curve_laws.proofs.StepLaws.{fit_law}
+use Rattle.curve_laws.proofs.FitLaws.{fit_law}
 use Rattle.curve_laws.proofs.StatedLaws.{sum_poly}
 use Rattle.curve_laws.proofs.Regulars.{turn_equal}
 use Rattle.curve_laws.proofs.SplitLaws.{none_law, parts_law, total_poly}

@@ -131,20 +131,20 @@ cmp_lowered a b e =
     let l : Equal ≡ nat_cmp b.component a.component = nat_cmp_is b.component a.component Equal (sym e) in
     λ i. ordering_then (l i) (ordering_then (nat_cmp (total_degree a.exponents) (total_degree b.exponents)) (cmp_last a.exponents b.exponents))
 
-abbrev pub IsLow : Monomial → Type 0
-IsLow m = m.component ≤ 1
+abbrev pub IsFirstOrSecond : Monomial → Type 0
+IsFirstOrSecond m = m.component ≤ 1
 
-pub canonical_second : (p : ℕ) (f : List Term) → EachMono IsLow f → IsCanonical p f → IsCanonical p (second f)
+pub canonical_second : (p : ℕ) (f : List Term) → EachMono IsFirstOrSecond f → IsCanonical p f → IsCanonical p (second f)
 canonical_second p [] l c = tt
 canonical_second p (t ∷ f) l c = go (t.mono.component == 0) refl (canonical_second p f l.1 c.3)
   where
-    lows : EachMono (λ w. (cmp_dp t.mono w ≡ Greater) × IsLow w) f
-    lows = every_zip (λ w. cmp_dp t.mono w ≡ Greater) IsLow f (every_low p t.mono f (canon p f c.3) c.2) l.1
+    lows : EachMono (λ w. (cmp_dp t.mono w ≡ Greater) × IsFirstOrSecond w) f
+    lows = every_zip (λ w. cmp_dp t.mono w ≡ Greater) IsFirstOrSecond f (every_low p t.mono f (canon p f c.3) c.2) l.1
 
     under : (t.mono.component ≡ 0 → ⊥) → Under (lowered t.mono) (second f)
     under n =
         every_under (λ w. cmp_dp (lowered t.mono) w ≡ Greater) (lowered t.mono) (second f) (λ w e. e)
-        (every_second (λ w. (cmp_dp t.mono w ≡ Greater) × IsLow w) (λ w. cmp_dp (lowered t.mono) w ≡ Greater) f
+        (every_second (λ w. (cmp_dp t.mono w ≡ Greater) × IsFirstOrSecond w) (λ w. cmp_dp (lowered t.mono) w ≡ Greater) f
         (λ w m x. (let one : t.mono.component ≡ w.component = one_of t.mono.component w.component n m l.0 x.1 in cmp_lowered t.mono w one ∙ x.0)) lows)
       where
         one_of : (a b : ℕ) → (a ≡ 0 → ⊥) → (b ≡ 0 → ⊥) → a ≤ 1 → b ≤ 1 → a ≡ b
@@ -164,14 +164,14 @@ second-append (t ∷ f) g = go (t.mono.component == 0) (second-append f g)
     go true ih = ih
     go false ih = λ i. moved t ∷ ih i
 
-pub second-normal : (p : ℕ) (f : List Term) → 0 < p → EachMono IsLow f → second (normal p f) ≡ normal p (second f)
+pub second-normal : (p : ℕ) (f : List Term) → 0 < p → EachMono IsFirstOrSecond f → second (normal p f) ≡ normal p (second f)
 second-normal p f h l =
-    sym (canonical_same p (second (normal p f)) (canonical_second p (normal p f) (every_normal IsLow p f l) (is_canonical p (normal p f) h (normal_canon p f))))
+    sym (canonical_same p (second (normal p f)) (canonical_second p (normal p f) (every_normal IsFirstOrSecond p f l) (is_canonical p (normal p f) h (normal_canon p f))))
     ∙ normal_ext p (second (normal p f)) (second f)
     (λ χ. ap (λ (n : ℕ). n % p) (weigh-second χ (normal p f)) ∙ weigh-normal p (λ m. cond (m.component == 0) 0 (χ (lowered m))) f ∙ ap (λ (n : ℕ). n % p) (sym (weigh-second χ f)))
 
-pub second-add : (p : ℕ) (f g : List Term) → 0 < p → EachMono IsLow f → EachMono IsLow g → second (add p f g) ≡ add p (second f) (second g)
-second-add p f g h k l = second-normal p (f ++ g) h (every_append IsLow f g k l) ∙ ap (normal p) (second-append f g)
+pub second-add : (p : ℕ) (f g : List Term) → 0 < p → EachMono IsFirstOrSecond f → EachMono IsFirstOrSecond g → second (add p f g) ≡ add p (second f) (second g)
+second-add p f g h k l = second-normal p (f ++ g) h (every_append IsFirstOrSecond f g k l) ∙ ap (normal p) (second-append f g)
 
 second-scale : (t : Term) (g : List Term) → IsPlain t.mono → second (scale t g) ≡ scale t (second g)
 second-scale t [] h = refl
@@ -193,9 +193,9 @@ second-products : (f g : List Term) → EachMono IsPlain f → second (products 
 second-products [] g h = refl
 second-products (t ∷ f) g h = second-append (scale t g) (products f g) ∙ (λ i. second-scale t g h.0 i ++ second-products f g h.1 i)
 
-pub second-mul : (p : ℕ) (f g : List Term) → 0 < p → EachMono IsPlain f → EachMono IsLow g → second (mul p f g) ≡ mul p f (second g)
+pub second-mul : (p : ℕ) (f g : List Term) → 0 < p → EachMono IsPlain f → EachMono IsFirstOrSecond g → second (mul p f g) ≡ mul p f (second g)
 second-mul p f g h k l =
-    second-normal p (products f g) h (every_products IsPlain IsLow IsLow f g (λ m w x y. omega arith) k l) ∙ ap (normal p) (second-products f g k)
+    second-normal p (products f g) h (every_products IsPlain IsFirstOrSecond IsFirstOrSecond f g (λ m w x y. omega arith) k l) ∙ ap (normal p) (second-products f g k)
 
 pub second_plain : (f : List Term) → EachMono IsPlain f → second f ≡ []
 second_plain [] h = refl

@@ -17,7 +17,7 @@ use Rattle.ideal_laws.proofs.Ideals.{in_larger}
 use Rattle.polys.proofs.Leads.{every_low}
 use Rattle.ideal_laws.proofs.Unique.{contains_head, contains_tail, contains_cases, contains_none}
 use Rattle.polys.proofs.Weights.{canon}
-use Rattle.graded_modules.specs.Vector.{IsGraded, IsGradedVector, IsGenerator, HasDegree, degree_at, lead_mono}
+use Rattle.graded_modules.specs.Vector.{IsGraded, IsGradedVector, IsGenerator, IsOfDegree, degree_at, lead_mono}
 use Rattle.graded_modules.specs.Module.{InModule, IsLeadMultiple}
 use Rattle.graded_modules.specs.Bases.{HasAllLeads}
 use Rattle.graded_modules.proofs.Members as members
@@ -128,7 +128,7 @@ first_generator p n shift b h =
       plain = plain_first b;
     }
   where
-    degrees : (f : List Term) → EachMono IsPlain f → HasDegree shift h.homogeneous.0 f → HasDegree 0 h.homogeneous.0 f
+    degrees : (f : List Term) → EachMono IsPlain f → IsOfDegree shift h.homogeneous.0 f → IsOfDegree 0 h.homogeneous.0 f
     degrees f a b =
         every_more (λ m. IsPlain m × (degree_at shift m ≡ h.homogeneous.0)) (λ m. degree_at 0 m ≡ h.homogeneous.0) f
         (λ m x. sym (plain_degree shift m x.0) ∙ x.1) (every_zip IsPlain (λ m. degree_at shift m ≡ h.homogeneous.0) f a b)

@@ -21,8 +21,8 @@ use Rattle.polys.proofs.Sums.{add_comm}
 use Rattle.polys.proofs.Units.{canonical_same, add_none}
 use Rattle.ideal_laws.proofs.Unique.{contains_head, contains_tail, contains_cases, contains_none}
 use Rattle.polys.proofs.Weights.{is_canonical, normal_canon}
-use Rattle.graded_modules.specs.Vector.{IsGraded, IsGradedVector, HasDegree, degree_at, lead_mono}
-use Rattle.graded_modules.specs.Module.{InModule, IsLead, IsLeadMultiple}
+use Rattle.graded_modules.specs.Vector.{IsGraded, IsGradedVector, IsOfDegree, degree_at, lead_mono}
+use Rattle.graded_modules.specs.Module.{InModule, IsModuleLead, IsLeadMultiple}
 use Rattle.graded_modules.proofs.Members as members
 use Rattle.homogenising.specs.Homogenised.{homogenised, dehomogenised, all_homogenised, all_dehomogenised, homogenised_to}
 use Rattle.homogenising.specs.Laws.{IsHomogeneousPoly}
@@ -36,7 +36,7 @@ use Rattle.homogenising.proofs.Spanning.{Low, cancel}
 use Rattle.ideal_laws.proofs.Differences.{sub_add, add_sub, less_difference}
 use Rattle.denominator_module.specs.Module.{module_of, first, second, quotient_of}
 use Rattle.denominator_module.specs.Laws.{AreGiven, IsModuleBasis, LiftLaws}
-use Rattle.denominator_module.proofs.Components.{IsLow, lowered, every_second, first_plain, second_plain, canonical_first}
+use Rattle.denominator_module.proofs.Components.{IsFirstOrSecond, lowered, every_second, first_plain, second_plain, canonical_first}
 use Rattle.denominator_module.proofs.Pairs.{pos, plain_degree, homogeneous_d, homogeneous_gs, IsPair, pairs, has_first}
 use Rattle.denominator_module.proofs.Firsts.{firsts_of, all_firsts, lead_first, lower_all, first_inside, homogeneous_firsts, firsts_inside, begins_first, member_vector, all_homogeneous, sum_inside, sum_leads, sum_monic, firsts_monic}
 use Rattle.denominator_module.proofs.Seconds.{one_of}
@@ -155,9 +155,9 @@ module _ (p n : ℕ) (d : List Term) (gs bs : List (List Term)) (k : ℕ) (given
           (members.in_mul p n H (sent p (lift (K - ha.generator.homogeneous.0)) cn.0) a.0 above (lift_factor p n given.six above (K - ha.generator.homogeneous.0) cn.0 cn.1)
           (All-contains (InModule p n H) (firsts_of bs) a.0 (firsts_inside p n d gs given bs mb) a.1))
 
-  module _ (g r : List Term) (poly : IsPoly p n g) (vector : IsGradedVector p n r) (degree : HasDegree (degree_of d) (degree_of g + k) r)
+  module _ (g r : List Term) (poly : IsPoly p n g) (vector : IsGradedVector p n r) (degree : IsOfDegree (degree_of d) (degree_of g + k) r)
       (difference : InModule p n bs (sub p (homogenised_to (degree_of g + k) g) r))
-      (outside : (m : Monomial) → Contains (map (λ t. t.mono) r) m → IsLead p n bs m → ⊥) where
+      (outside : (m : Monomial) → Contains (map (λ t. t.mono) r) m → IsModuleLead p n bs m → ⊥) where
     K : ℕ
     K = degree_of g + k
 
@@ -186,11 +186,11 @@ module _ (p n : ℕ) (d : List Term) (gs bs : List (List Term)) (k : ℕ) (given
     in_x : InModule p n M (sub p (image (lift (degree_of g + k)) g) r)
     in_x = (mb.same (sub p (image (lift (degree_of g + k)) g) r)).1 difference
 
-    lows_v : EachMono IsLow (image (lift (degree_of g + k)) g)
-    lows_v = every_more IsPlain IsLow (image (lift (degree_of g + k)) g) (λ m h. omega arith) homogeneous_v.plain
+    lows_v : EachMono IsFirstOrSecond (image (lift (degree_of g + k)) g)
+    lows_v = every_more IsPlain IsFirstOrSecond (image (lift (degree_of g + k)) g) (λ m h. omega arith) homogeneous_v.plain
 
-    lows_r : EachMono IsLow r
-    lows_r = every_more (IsGraded n) IsLow r (λ m h. h.two) vector.graded
+    lows_r : EachMono IsFirstOrSecond r
+    lows_r = every_more (IsGraded n) IsFirstOrSecond r (λ m h. h.two) vector.graded
 
     first_x : first (sub p (image (lift (degree_of g + k)) g) r) ≡ sub p (image (lift (degree_of g + k)) g) (first r)
     first_x =

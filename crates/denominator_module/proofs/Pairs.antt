@@ -17,7 +17,7 @@ use Rattle.polys.proofs.Affine.{only_zeros}
 use Rattle.polys.proofs.Each.{every_append, every_more, every_zip, every_normal, every_products, every_add, every_mul}
 use Rattle.polys.proofs.Sums.{add_comm, mul-add}
 use Rattle.polys.proofs.Units.{canonical_same, mul_one, add_none}
-use Rattle.graded_modules.specs.Vector.{IsGraded, IsGradedVector, IsFactor, IsGenerator, HasDegree, degree_at}
+use Rattle.graded_modules.specs.Vector.{IsGraded, IsGradedVector, IsFactor, IsGenerator, IsOfDegree, degree_at}
 use Rattle.graded_modules.specs.Module.{InModule}
 use Rattle.graded_modules.proofs.Members.{in_sub, in_mul, in_more, in_head}
 use Rattle.homogenising.specs.Homogenised.{homogenised, all_homogenised}
@@ -28,7 +28,7 @@ use Rattle.homogenising.proofs.Images.{image, canonical_image}
 use Rattle.ideal_laws.proofs.Differences.{add_sub}
 use Rattle.denominator_module.specs.Module.{with_unit, module_of, first, second}
 use Rattle.denominator_module.specs.Laws.{AreGiven}
-use Rattle.denominator_module.proofs.Components.{IsLow, cmp_lowered, first-append, first-add, first-mul, first_plain, second-append, second-add, second-mul, second_plain}
+use Rattle.denominator_module.proofs.Components.{IsFirstOrSecond, cmp_lowered, first-append, first-add, first-mul, first_plain, second-append, second-add, second-mul, second_plain}
 
 -- the second unit vector
 abbrev pub second_mono : Monomial
@@ -93,7 +93,7 @@ module _ (p n : ℕ) (d : List Term) (gs : List (List Term)) (given : AreGiven p
         graded = every_append (IsGraded n) (homogenised d) second_unit homogeneous_d.generator.vector.graded (graded_second n, tt);
       }
 
-  degrees_at : (shift e : ℕ) (f : List Term) → EachMono IsPlain f → HasDegree 0 e f → HasDegree shift e f
+  degrees_at : (shift e : ℕ) (f : List Term) → EachMono IsPlain f → IsOfDegree 0 e f → IsOfDegree shift e f
   degrees_at shift e f h k =
       every_more (λ m. IsPlain m × (degree_at 0 m ≡ e)) (λ m. degree_at shift m ≡ e) f (λ m x. plain_degree shift m x.0 ∙ x.1) (every_zip IsPlain (λ m. degree_at 0 m ≡ e) f h k)
 
@@ -121,8 +121,8 @@ module _ (p n : ℕ) (d : List Term) (gs : List (List Term)) (given : AreGiven p
 
   -- ---- the parts of members
 
-  lows : (f : List Term) → EachMono (IsGraded n) f → EachMono IsLow f
-  lows f h = every_more (IsGraded n) IsLow f (λ m x. x.two) h
+  lows : (f : List Term) → EachMono (IsGraded n) f → EachMono IsFirstOrSecond f
+  lows f h = every_more (IsGraded n) IsFirstOrSecond f (λ m x. x.two) h
 
   first_combination : (qs hs : List (List Term)) → All (IsFactor p n) qs → All (IsHomogeneousPoly p n) hs → EachMono IsPlain (combination p qs hs)
   first_combination [] hs a b = tt
@@ -141,11 +141,11 @@ module _ (p n : ℕ) (d : List Term) (gs : List (List Term)) (given : AreGiven p
 
   -- the parts of q (d^h, 1) + (w, 0)
   module _ (q w : List Term) (h : IsFactor p n q) (k : EachMono IsPlain w) where
-    low_q : EachMono IsLow (mul p q (with_unit d))
-    low_q = every_normal IsLow p (products q (with_unit d)) (every_products IsPlain IsLow IsLow q (with_unit d) (λ m x a b. omega arith) h.plain (lows (with_unit d) unit_vector.graded))
+    low_q : EachMono IsFirstOrSecond (mul p q (with_unit d))
+    low_q = every_normal IsFirstOrSecond p (products q (with_unit d)) (every_products IsPlain IsFirstOrSecond IsFirstOrSecond q (with_unit d) (λ m x a b. omega arith) h.plain (lows (with_unit d) unit_vector.graded))
 
-    low_w : EachMono IsLow w
-    low_w = every_more IsPlain IsLow w (λ m x. omega arith) k
+    low_w : EachMono IsFirstOrSecond w
+    low_w = every_more IsPlain IsFirstOrSecond w (λ m x. omega arith) k
 
     unit_second : second (with_unit d) ≡ one
     unit_second = second-append (homogenised d) second_unit ∙ (λ i. second_plain (homogenised d) homogeneous_d.plain i ++ one)

@@ -9,7 +9,7 @@ use Rattle.polys.proofs.Units.{weigh-scaled}
 use Rattle.polys.proofs.Weights.{weigh, weigh-normal, normal_ext}
 use Rattle.homogenising.proofs.Images.{image, sent, sent-normal}
 use Rattle.denominator_module.specs.Module.{first, second}
-use Rattle.denominator_module.proofs.Components.{IsLow, first-normal, first-add, second-normal, second-add}
+use Rattle.denominator_module.proofs.Components.{IsFirstOrSecond, first-normal, first-add, second-normal, second-add}
 
 first-scaled : (c : ℕ) (f : List Term) → first (scaled c f) ≡ scaled c (first f)
 first-scaled c [] = refl
@@ -39,12 +39,12 @@ second-scaled c (t ∷ f) = go (t.mono.component == 0) (second-scaled c f)
     go true ih = ih
     go false ih = λ i. record { coeff = c * t.coeff; mono = low } ∷ ih i
 
-pub second-multiple : (p c : ℕ) (f : List Term) → 0 < p → EachMono IsLow f → second (multiple p c f) ≡ multiple p c (second f)
-second-multiple p c f h l = second-normal p (scaled c f) h (every_scaled IsLow c f l) ∙ ap (normal p) (second-scaled c f)
+pub second-multiple : (p c : ℕ) (f : List Term) → 0 < p → EachMono IsFirstOrSecond f → second (multiple p c f) ≡ multiple p c (second f)
+second-multiple p c f h l = second-normal p (scaled c f) h (every_scaled IsFirstOrSecond c f l) ∙ ap (normal p) (second-scaled c f)
 
-pub second-sub : (p : ℕ) (f g : List Term) → 0 < p → EachMono IsLow f → EachMono IsLow g → second (sub p f g) ≡ sub p (second f) (second g)
+pub second-sub : (p : ℕ) (f g : List Term) → 0 < p → EachMono IsFirstOrSecond f → EachMono IsFirstOrSecond g → second (sub p f g) ≡ sub p (second f) (second g)
 second-sub p f g h k l =
-    second-add p f (multiple p (p - 1) g) h k (every_multiple IsLow p (p - 1) g l) ∙ ap (add p (second f)) (second-multiple p (p - 1) g h l)
+    second-add p f (multiple p (p - 1) g) h k (every_multiple IsFirstOrSecond p (p - 1) g l) ∙ ap (add p (second f)) (second-multiple p (p - 1) g h l)
 
 image-scaled : (φ : Monomial → Monomial) (c : ℕ) (f : List Term) → image φ (scaled c f) ≡ scaled c (image φ f)
 image-scaled φ c [] = refl

@@ -16,7 +16,7 @@ use Rattle.graded_modules.specs.Vector.{IsGraded, IsGenerator, degree_at, lead_m
 use Rattle.homogenising.specs.Homogenised.{dehomogenised, all_dehomogenised}
 use Rattle.homogenising.specs.Laws.{IsHomogeneousPoly}
 use Rattle.denominator_module.specs.Module.{first, second, colon_members}
-use Rattle.denominator_module.proofs.Components.{lowered, IsLow, every_second, canonical_second}
+use Rattle.denominator_module.proofs.Components.{lowered, IsFirstOrSecond, every_second, canonical_second}
 use Rattle.denominator_module.proofs.Firsts.{none_first, stays_second}
 
 -- the second parts, still homogeneous
@@ -85,7 +85,7 @@ second_homogeneous p n shift b h =
     record {
       generator = record {
         vector = record {
-          canonical = canonical_second p b (every_more (IsGraded n) IsLow b (λ m x. x.two) h.vector.graded) h.vector.canonical;
+          canonical = canonical_second p b (every_more (IsGraded n) IsFirstOrSecond b (λ m x. x.two) h.vector.graded) h.vector.canonical;
           graded = every_second (IsGraded n) (IsGraded n) b (λ m z x. record { seven = x.seven; first = x.first; two = (omega arith) }) h.vector.graded;
         };
         homogeneous = (h.homogeneous.0 - shift, degrees);

@@ -7,7 +7,7 @@ use Rattle.polys.specs.declared.term.Term.{Term}
 use Rattle.polys.specs.Poly.{IsVector}
 use Rattle.polys.proofs.Each.{every_more}
 use Rattle.denominator_module.specs.Module.{first, second}
-use Rattle.denominator_module.proofs.Components.{lowered, IsLow, first-append, every_first, canonical_first, second-append, every_second, canonical_second}
+use Rattle.denominator_module.proofs.Components.{lowered, IsFirstOrSecond, first-append, every_first, canonical_first, second-append, every_second, canonical_second}
 
 -- ---- one more term of a loop
 
@@ -57,6 +57,6 @@ second_vector p q f g h v e a b =
     subst (λ r. IsVector r g) (sym e)
     (subst (IsVector p) (sym (b ∙ ap second a))
     (record {
-      canonical = canonical_second p f (every_more IsMono IsLow f (λ m x. x.one_of_two) v.monos) v.canonical;
+      canonical = canonical_second p f (every_more IsMono IsFirstOrSecond f (λ m x. x.one_of_two) v.monos) v.canonical;
       monos = every_second IsMono IsMono f (λ m z x. record { seven = x.seven; bounded = x.bounded; one_of_two = (omega arith) }) v.monos;
     }))

@@ -1,11 +1,12 @@
 -- Laws of the module of a denominator: sums, colon ideals, lifts.
 use Rattle.std.specs.Prelude.{◌≡◌, ◌≢◌, ◌↔◌, ℕ, ◌+◌, ◌≤◌, List, [], ◌∷◌, All}
+use Rattle.monomials.specs.declared.mono.TheConstants.{MAX_VARIABLES}
 use Rattle.prime_field.specs.Primes.{IsPrime}
 use Rattle.polys.specs.declared.term.Term.{Term}
 use Rattle.polys.specs.Terms.{IsPoly, IsMonic, degree_of, sub, mul}
 use Rattle.polys.specs.Ideal.{InIdeal, Regular}
 use Rattle.polys.specs.Reduced.{IsReducedBasis}
-use Rattle.graded_modules.specs.Vector.{IsGenerator, IsGradedVector, HasDegree, degree_at, lead_mono}
+use Rattle.graded_modules.specs.Vector.{IsGenerator, IsGradedVector, IsOfDegree, degree_at, lead_mono}
 use Rattle.graded_modules.specs.Bases.{HasAllLeads, SpanOneModule, IsNormalForm}
 use Rattle.homogenising.specs.Homogenised.{homogenised_to}
 use Rattle.homogenising.specs.Laws.{HasAffineLeads}
@@ -14,7 +15,7 @@ use Rattle.denominator_module.specs.Module.{module_of, first, sum_members, colon
 -- d and the generators are polynomials in 1 to 6 variables modulo a prime
 pub record AreGiven (p n : ℕ) (d : List Term) (gs : List (List Term)) : Type 0 where
   pub prime : IsPrime p
-  pub six : n ≤ 6
+  pub six : n ≤ MAX_VARIABLES
   pub denominator : IsPoly p n d
   pub generators : All (IsPoly p n) gs
 
@@ -49,7 +50,7 @@ pub record IsLifting (p n : ℕ) (d : List Term) (gs bs : List (List Term)) (k :
   pub poly : IsPoly p n g
   pub normal : IsNormalForm p n bs (homogenised_to (degree_of g + k) g) r
   pub vector : IsGradedVector p n r
-  pub degree : HasDegree (degree_of d) (degree_of g + k) r
+  pub degree : IsOfDegree (degree_of d) (degree_of g + k) r
 
 -- the first part of the normal form is 0 exactly for members of the ideal of d and the generators, and then its second part
 -- gives the quotient u: g - u d is in the ideal of the generators

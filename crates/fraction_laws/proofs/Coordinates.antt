@@ -4,7 +4,7 @@ use native.Mathlib.Decide.{ℕ_discrete}
 use Rattle.comm_ring.proofs.Derived.{one_mul, zero_mul, zero_add}
 use Rattle.comm_ring.proofs.Expressions.{c0, ◌+:◌, ◌*:◌, minus, v0, v1, v2, v3, v4, v5, v6, ring_as}
 use Rattle.comm_ring.specs.Ring.{CommRing, pow}
-use Rattle.fraction_laws.proofs.Digits.{digit_high, digit_low, digit_room}
+use Rattle.comm_ring.proofs.PlaceValues.{digit_high, digit_low, digit_room}
 use Rattle.fraction_laws.proofs.WrittenOut.{Finite}
 use Rattle.fraction_laws.proofs.Scalars.{Scalars, sum_of, Spanned, Dim}
 use Rattle.fraction_laws.proofs.Settings.{EachN}

@@ -1,22 +1,11 @@
 -- The members of A modulo a power of d, by numbers.
-use Rattle.std.proofs.Common.{◌≡◌, sym, ap, ℕ, zero, suc, ◌<◌, ◌≤◌, ◌+◌, ◌*◌, [], ◌∷◌, arith, mul-le-mul_left}
+use Rattle.std.proofs.Common.{◌≡◌, ℕ, zero, suc, ◌<◌, ◌+◌, ◌*◌, [], ◌∷◌, arith}
 use Rattle.comm_ring.proofs.Derived.{one_mul, zero_mul, add_right_cancel}
 use Rattle.comm_ring.proofs.Expressions.{c1, ◌+:◌, ◌*:◌, minus, v0, v1, v2, v3, v4, ring_as}
+use Rattle.comm_ring.proofs.PlaceValues.{digit_high, digit_low, digit_room}
 use Rattle.comm_ring.specs.Ring.{pow}
 use Rattle.fraction_laws.proofs.Basic.{pow_in}
 use Rattle.fraction_laws.proofs.Settings.{Setting, gr, Digits}
-
-ordered : (s i i' m m' : ℕ) → i < s → i' < s → i + s * m ≡ i' + s * m' → m < m' → ⊥
-ordered s i i' m m' a b e l = let h : s * suc m ≤ s * m' = mul-le-mul_left s l in omega arith
-
-pub digit_high : (s i i' m m' : ℕ) → i < s → i' < s → i + s * m ≡ i' + s * m' → m ≡ m'
-digit_high s i i' m m' a b e = let h : ¬ (m < m') = ordered s i i' m m' a b e in let k : ¬ (m' < m) = ordered s i' i m' m b a (sym e) in omega arith
-
-pub digit_low : (s i i' m m' : ℕ) → i + s * m ≡ i' + s * m' → m ≡ m' → i ≡ i'
-digit_low s i i' m m' e q = let h : s * m ≡ s * m' = ap (λ k. s * k) q in omega arith
-
-pub digit_room : (s c i m : ℕ) → i < s → m < c → i + s * m < s * c
-digit_room s c i m a b = let h : s * suc m ≤ s * c = mul-le-mul_left s b in omega arith
 
 module _ (K : Setting) where
   open K use {ring, A, A_ring, A_d, d, cancel, ring.{carrier, ◌≈◌, ◌⊕◌, ◌⊗◌, neg, 𝟘, 𝟙, rfl, symm, trans, add_cong, mul_cong, neg_cong, add_assoc, add_comm, add_zero, add_neg, mul_assoc, mul_comm, mul_one, distrib}}

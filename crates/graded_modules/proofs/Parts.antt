@@ -13,7 +13,7 @@ use Rattle.polys.proofs.Sums.{mul_comm}
 use Rattle.polys.proofs.Units.{canonical_same}
 use Rattle.polys.proofs.Each.{every_scale, every_under}
 use Rattle.polys.proofs.Leads.{every_low}
-use Rattle.graded_modules.specs.Vector.{IsGraded, IsFactor, IsGenerator, HasDegree, degree_at, lead_mono}
+use Rattle.graded_modules.specs.Vector.{IsGraded, IsFactor, IsGenerator, IsOfDegree, degree_at, lead_mono}
 use Rattle.graded_modules.specs.Module.{InModule}
 use Rattle.graded_modules.specs.SVector.{Multiple, total, top}
 use Rattle.graded_modules.proofs.Graded.{degree_times}
@@ -68,12 +68,12 @@ module _ (shift d : ℕ) where
 
   -- ---- weights of homogeneous lists
 
-  weigh_at : (χ : Monomial → ℕ) (f : List Term) → HasDegree shift d f → weigh (at shift d χ) f ≡ weigh χ f
+  weigh_at : (χ : Monomial → ℕ) (f : List Term) → IsOfDegree shift d f → weigh (at shift d χ) f ≡ weigh χ f
   unfolding weigh
   weigh_at χ [] h = refl
   weigh_at χ (t ∷ f) h = λ i. t.coeff * cond (eq-eqb (degree_at shift t.mono) d h.0 i) (χ t.mono) 0 + weigh_at χ f h.1 i
 
-  weigh_off : (k : ℕ) (χ : Monomial → ℕ) (f : List Term) → (k == d) ≡ false → HasDegree shift k f → weigh (at shift d χ) f ≡ 0
+  weigh_off : (k : ℕ) (χ : Monomial → ℕ) (f : List Term) → (k == d) ≡ false → IsOfDegree shift k f → weigh (at shift d χ) f ≡ 0
   unfolding weigh
   weigh_off k χ [] q h = refl
   weigh_off k χ (t ∷ f) q h =
@@ -90,7 +90,7 @@ module _ (shift d : ℕ) where
       each : All (IsSummand p n shift gs d) multiples
       same : (χ : Monomial → ℕ) → weigh (at shift d χ) f % p ≡ weigh χ (total p multiples) % p
 
-    scale_degree : (t : Term) (g : List Term) → IsGenerator p n shift g → HasDegree shift (degree_at shift (times (lead_mono g) t.mono)) (scale t g)
+    scale_degree : (t : Term) (g : List Term) → IsGenerator p n shift g → IsOfDegree shift (degree_at shift (times (lead_mono g) t.mono)) (scale t g)
     scale_degree t g h =
         every_scale (λ m. degree_at shift m ≡ degree_at shift (lead_mono g)) (λ m. degree_at shift m ≡ degree_at shift (times (lead_mono g) t.mono)) t g
         (λ m q. degree_times shift t.mono m ∙ (let x = degree_times shift (lead_mono g) t.mono in omega arith)) (same_degrees p n shift g h)
@@ -122,7 +122,7 @@ module _ (shift d : ℕ) where
               same = λ χ.
                   ap (λ (x : ℕ). x % p) (weigh-append (at shift d χ) (scale t g) (products q g))
                   ∙ mod_plus p (weigh (at shift d χ) (scale t g)) (weigh χ (value p s)) (weigh (at shift d χ) (products q g)) (weigh χ (total p rest.multiples))
-                  (ap (λ (x : ℕ). x % p) (weigh_at χ (scale t g) (subst (λ (x : ℕ). HasDegree shift x (scale t g)) deg (scale_degree t g hg))) ∙ sym (weigh_value χ s)) (rest.same χ)
+                  (ap (λ (x : ℕ). x % p) (weigh_at χ (scale t g) (subst (λ (x : ℕ). IsOfDegree shift x (scale t g)) deg (scale_degree t g hg))) ∙ sym (weigh_value χ s)) (rest.same χ)
                   ∙ ap (λ (x : ℕ). x % p) (sym (weigh-append χ (value p s) (total p rest.multiples)))
                   ∙ sym (weigh-normal p χ (value p s ++ total p rest.multiples));
             }

@@ -13,8 +13,8 @@ use Rattle.polys.proofs.Units.{canonical_same}
 use Rattle.polys.proofs.Each.{every_more, every_add, every_multiple}
 use Rattle.polys.proofs.Products.{times_term}
 use Rattle.ideal_laws.proofs.Unique.{contains_head, contains_tail, contains_cases, contains_none}
-use Rattle.graded_modules.specs.Vector.{IsGraded, IsGradedVector, IsGenerator, HasDegree, degree_at, lead_mono}
-use Rattle.graded_modules.specs.Module.{InModule, IsLead, IsLeast, IsLeadMultiple}
+use Rattle.graded_modules.specs.Vector.{IsGraded, IsGradedVector, IsGenerator, IsOfDegree, degree_at, lead_mono}
+use Rattle.graded_modules.specs.Module.{InModule, IsModuleLead, IsLeast, IsLeadMultiple}
 use Rattle.graded_modules.specs.SVector.{cofactor}
 use Rattle.graded_modules.specs.Bases.{AreApart, HasAllLeads, SpanOneModule}
 use Rattle.graded_modules.specs.Laws.{ReducedByLeads, RemainderIsNormal}
@@ -64,11 +64,11 @@ module _ (p n shift : ℕ) (gs qs : List (List Term)) (prime : IsPrime p) (given
   record IsStep (e : ℕ) (t : Term) (f : List Term) : Type 0 where
     next : List Term
     member : InModule p n gs next
-    homogeneous : HasDegree shift e next
+    homogeneous : IsOfDegree shift e next
     lower : EachMono (Lower t.mono) next
     back : InModule p n qs next → InModule p n qs (t ∷ f)
 
-  step : (e : ℕ) (t : Term) (f : List Term) → InModule p n gs (t ∷ f) → HasDegree shift e (t ∷ f) → IsStep e t f
+  step : (e : ℕ) (t : Term) (f : List Term) → InModule p n gs (t ∷ f) → IsOfDegree shift e (t ∷ f) → IsStep e t f
   step e t f m h = go (known t.mono (t, f, m, refl))
     where
       v : IsGradedVector p n (t ∷ f)
@@ -90,7 +90,7 @@ module _ (p n shift : ℕ) (gs qs : List (List Term)) (prime : IsPrime p) (given
           let coeff_is : (u.coeff * t.coeff) % p ≡ t.coeff = let k : u.coeff * t.coeff ≡ t.coeff = rw one (omega arith) in ap (λ (x : ℕ). x % p) k ∙ mod-eq_of_lt v.canonical.1 in
           let whole : product ≡ t ∷ tail = product_is p w u g prime v.canonical.0 v.canonical.1 hq.vector.canonical sevens ∙ (λ i. record { coeff = coeff_is i; mono = top_is i } ∷ tail) in
           let drops : sub p (t ∷ f) product ≡ sub p f tail = ap (sub p (t ∷ f)) whole ∙ sub_cons p t f tail pos in
-          let deg : HasDegree shift e product = subst (λ (x : ℕ). HasDegree shift x product) (ap (degree_at shift) top_is ∙ h.0) (product_degree p n shift (u ∷ g) w hq) in
+          let deg : IsOfDegree shift e product = subst (λ (x : ℕ). IsOfDegree shift x product) (ap (degree_at shift) top_is ∙ h.0) (product_degree p n shift (u ∷ g) w hq) in
           let inside = λ (hs : List (List Term)) (k : InModule p n hs (u ∷ g)). in_product p n hs (u ∷ g) (w ∷ []) pos (gw, tt) (refl, tt) k in
           record {
             next = sub p (t ∷ f) product;
@@ -106,11 +106,11 @@ module _ (p n shift : ℕ) (gs qs : List (List Term)) (prime : IsPrime p) (given
       go : IsLeadMultiple qs t.mono → IsStep e t f
       go x = by x.0 x.1 x.2
 
-  below_rank : (e N : ℕ) (m : Monomial) (f : List Term) → IsGraded n m → degree_at shift m ≡ e → rank e m < suc N → EachMono (IsGraded n) f → HasDegree shift e f → EachMono (Lower m) f → EachMono (λ w. rank e w < N) f
+  below_rank : (e N : ℕ) (m : Monomial) (f : List Term) → IsGraded n m → degree_at shift m ≡ e → rank e m < suc N → EachMono (IsGraded n) f → IsOfDegree shift e f → EachMono (Lower m) f → EachMono (λ w. rank e w < N) f
   below_rank e N m [] gm dm r g d l = tt
   below_rank e N m (t ∷ f) gm dm r g d l = (let x = rank_rises n shift e t.mono m g.0 gm d.0 dm l.0 in omega arith, below_rank e N m f gm dm r g.1 d.1 l.1)
 
-  descend : (e N : ℕ) (f : List Term) → InModule p n gs f → HasDegree shift e f → EachMono (λ w. rank e w < N) f → InModule p n qs f
+  descend : (e N : ℕ) (f : List Term) → InModule p n gs f → IsOfDegree shift e f → EachMono (λ w. rank e w < N) f → InModule p n qs f
   descend e N [] m h r = in_none p n qs
   descend e zero (t ∷ f) m h r = let x = r.0 in absurd (omega arith)
   descend e (suc N) (t ∷ f) m h r =
@@ -141,20 +141,20 @@ module _ (p n shift : ℕ) (gs qs : List (List Term)) (prime : IsPrime p) (given
   own_leads : HasAllLeads p n qs qs
   own_leads m (t, f, a, e) = known m (t, f, (one_module (t ∷ f)).1 a, e)
 
-  own_lead : (q : List Term) → Contains qs q → IsLead p n qs (lead_mono q)
+  own_lead : (q : List Term) → Contains qs q → IsModuleLead p n qs (lead_mono q)
   own_lead q c = go q c (in_generator p n qs q (above_one p prime) own_vectors c)
     where
-      go : (q : List Term) → Contains qs q → InModule p n qs q → IsLead p n qs (lead_mono q)
+      go : (q : List Term) → Contains qs q → InModule p n qs q → IsModuleLead p n qs (lead_mono q)
       go [] c k = absurd (All-contains IsMonic qs [] monic c)
       go (t ∷ f) c k = (t, f, k, refl)
 
-  lead_shape : (m : Monomial) → IsLead p n qs m → IsGraded n m
+  lead_shape : (m : Monomial) → IsModuleLead p n qs m → IsGraded n m
   lead_shape m (t, f, a, e) = subst (IsGraded n) e ((in_vector p n qs (t ∷ f) pos own_vectors a).graded.0)
 
-  listed_least : AreApart qs → (m : Monomial) → Contains (leads qs) m → IsLeast (IsLead p n qs) m
+  listed_least : AreApart qs → (m : Monomial) → Contains (leads qs) m → IsLeast (IsModuleLead p n qs) m
   listed_least apart m c =
       let x = listed_lead qs monic m c in (
-        subst (IsLead p n qs) x.2 (own_lead x.0 x.1),
+        subst (IsModuleLead p n qs) x.2 (own_lead x.0 x.1),
         λ w k d.
             let y = own_leads w k in
             let dq : Divides w (lead_mono x.0) = subst (Divides w) (sym x.2) d in
@@ -163,7 +163,7 @@ module _ (p n shift : ℕ) (gs qs : List (List Term)) (prime : IsPrime p) (given
             (subst (λ v. Divides v w) (ap lead_mono same ∙ x.2) y.2),
       )
 
-  least_listed : (m : Monomial) → IsLeast (IsLead p n qs) m → Contains (leads qs) m
+  least_listed : (m : Monomial) → IsLeast (IsModuleLead p n qs) m → Contains (leads qs) m
   least_listed m k =
       let x = own_leads m k.0 in
       subst (Contains (leads qs)) (k.1 (lead_mono x.0) (own_lead x.0 x.1) x.2) (lead_listed qs monic x.0 x.1)
@@ -193,7 +193,7 @@ normal_law p n shift qs v r prime h hv hr member low = record {
     pos : 0 < p
     pos = positive_of_prime p prime
 
-    outside : (m : Monomial) → Contains (map (λ t. t.mono) r) m → IsLead p n qs m → ⊥
+    outside : (m : Monomial) → Contains (map (λ t. t.mono) r) m → IsModuleLead p n qs m → ⊥
     outside m c l = low m c (h.all_leads m l)
 
     -- r is v less the difference

@@ -12,7 +12,7 @@ use Rattle.polys.specs.Terms.{EachMono, IsMonic, sub, mul, multiple, products}
 use Rattle.polys.proofs.Units.{sub_self}
 use Rattle.polys.proofs.Each.{every_add, every_normal, every_multiple, every_more, every_products}
 use Rattle.polys.proofs.Products.{times_term}
-use Rattle.graded_modules.specs.Vector.{IsGraded, IsGradedVector, IsGenerator, HasDegree, degree_at, lead_mono}
+use Rattle.graded_modules.specs.Vector.{IsGraded, IsGradedVector, IsGenerator, IsOfDegree, degree_at, lead_mono}
 use Rattle.graded_modules.specs.Module.{InModule}
 use Rattle.graded_modules.specs.SVector.{cofactor, raised, lead_lcm, s_vector, IsSumBelow, IsSettled}
 use Rattle.graded_modules.specs.Laws.{ArePaired, SVectorLaws}
@@ -91,13 +91,13 @@ module _ (p n shift : ℕ) where
       vector_sub p n (raised p f m) (raised p g m) pos (raised_vector f m pos a.first (lcm_graded f g a)) (raised_vector g m pos a.second (lcm_graded f g a))
 
   -- a multiple of a homogeneous vector is homogeneous
-  pub same_degrees : (f : List Term) → IsGenerator p n shift f → HasDegree shift (degree_at shift (lead_mono f)) f
+  pub same_degrees : (f : List Term) → IsGenerator p n shift f → IsOfDegree shift (degree_at shift (lead_mono f)) f
   same_degrees [] h = tt
   same_degrees (t ∷ f) h =
       let e = h.homogeneous.0 in
       every_more (λ m. degree_at shift m ≡ e) (λ m. degree_at shift m ≡ degree_at shift t.mono) (t ∷ f) (λ m q. q ∙ sym (h.homogeneous.1.0)) h.homogeneous.1
 
-  pub product_degree : (f : List Term) (t : Term) → IsGenerator p n shift f → HasDegree shift (degree_at shift (times (lead_mono f) t.mono)) (mul p f (t ∷ []))
+  pub product_degree : (f : List Term) (t : Term) → IsGenerator p n shift f → IsOfDegree shift (degree_at shift (times (lead_mono f) t.mono)) (mul p f (t ∷ []))
   product_degree f t h =
       every_normal P p (products f (t ∷ []))
       (every_products (λ m. degree_at shift m ≡ degree_at shift (lead_mono f)) (λ m. m ≡ t.mono) P f (t ∷ [])
@@ -106,12 +106,12 @@ module _ (p n shift : ℕ) where
       P : Monomial → Type 0
       P m = degree_at shift m ≡ degree_at shift (times (lead_mono f) t.mono)
 
-  pub raised_degree : (f : List Term) (m : Monomial) → IsGenerator p n shift f → IsGraded n m → Divides (lead_mono f) m → HasDegree shift (degree_at shift m) (raised p f m)
+  pub raised_degree : (f : List Term) (m : Monomial) → IsGenerator p n shift f → IsGraded n m → Divides (lead_mono f) m → IsOfDegree shift (degree_at shift m) (raised p f m)
   raised_degree f m h gm d =
-      subst (λ w. HasDegree shift (degree_at shift w) (raised p f m)) (times_cofactor (lead_mono f) m (same_shape n (lead_mono f) m (lead_g f h) gm) d)
+      subst (λ w. IsOfDegree shift (degree_at shift w) (raised p f m)) (times_cofactor (lead_mono f) m (same_shape n (lead_mono f) m (lead_g f h) gm) d)
       (product_degree f (record { coeff = 1; mono = cofactor (lead_mono f) m }) h)
 
-  s_degree : (f g : List Term) → ArePaired p n shift f g → HasDegree shift (degree_at shift (lead_lcm f g)) (s_vector p f g)
+  s_degree : (f g : List Term) → ArePaired p n shift f g → IsOfDegree shift (degree_at shift (lead_lcm f g)) (s_vector p f g)
   s_degree f g a =
       let m = lead_lcm f g in
       let gm = lcm_graded f g a in

@@ -14,7 +14,7 @@ use Rattle.polys.proofs.Sums.{normal_normal, add_comm, add_assoc, add_normal_rig
 use Rattle.polys.proofs.Units.{canonical_same}
 use Rattle.polys.proofs.Each.{every_scaled, every_normal}
 use Rattle.polys.proofs.Products.{times_residue, multiple_by_residue, mul-append}
-use Rattle.graded_modules.specs.Vector.{IsGraded, IsGradedVector, HasDegree, degree_at, lead_mono}
+use Rattle.graded_modules.specs.Vector.{IsGraded, IsGradedVector, IsOfDegree, degree_at, lead_mono}
 use Rattle.graded_modules.specs.SVector.{cofactor, raised, lead_lcm, s_vector, Multiple, top, IsBelow, IsSumBelow, IsSettled}
 use Rattle.graded_modules.specs.Laws.{ArePaired, SettledLaws}
 use Rattle.graded_modules.proofs.Graded.{graded_times, graded_unit, degree_times, lead_graded, each_seven}
@@ -51,7 +51,7 @@ module _ (p n shift : ℕ) where
   }
 
   remainder : (bs : List (List Term)) (m : Monomial) (f r b : List Term) → IsPrime p → IsGradedVector p n f → IsGradedVector p n r
-      → r ≢ [] → EachMono (Lower m) r → HasDegree shift (degree_at shift m) r → IsMonicOf p r b
+      → r ≢ [] → EachMono (Lower m) r → IsOfDegree shift (degree_at shift m) r → IsMonicOf p r b
       → IsSumBelow p n shift bs m (sub p f r) → IsSumBelow p n shift (bs ++ b ∷ []) m f
   remainder bs m f [] b prime hf hr some low deg monic a = absurd (some refl)
   remainder bs m f (t ∷ r) b prime hf hr some low deg monic a =
@@ -114,7 +114,7 @@ cancel p x w a h e =
 
 module _ (p n shift : ℕ) (bs : List (List Term)) where
   products_below : (g f : List Term) (u : Monomial) → Contains bs g → IsGraded n u → IsGraded n (lead_mono g) → IsCanonical p f → EachMono (IsGraded n) f → EachMono IsPlain f
-      → EachMono (Lower u) f → HasDegree shift (degree_at shift u) f → IsSumBelow p n shift bs (times (lead_mono g) u) (mul p g f)
+      → EachMono (Lower u) f → IsOfDegree shift (degree_at shift u) f → IsSumBelow p n shift bs (times (lead_mono g) u) (mul p g f)
   products_below g [] u c gu gg k a z l d = record { multiples = []; each = All-nil (IsBelow p n shift bs (times (lead_mono g) u)); sum = mul_none p g }
   products_below g (t ∷ f) u c gu gg k a z l d =
       let m = times (lead_mono g) u in

@@ -7,7 +7,7 @@ use Rattle.polys.specs.declared.term.Term.{Term}
 use Rattle.polys.specs.Terms.{IsMonic, sub}
 use Rattle.polys.specs.Reduced.{leads, lower_monos}
 use Rattle.graded_modules.specs.Vector.{IsGenerator, degree_at, lead_mono}
-use Rattle.graded_modules.specs.Module.{InModule, IsLead, IsLeast, IsLeadMultiple}
+use Rattle.graded_modules.specs.Module.{InModule, IsModuleLead, IsLeast, IsLeadMultiple}
 use Rattle.graded_modules.specs.SVector.{IsSettled, lead_lcm}
 
 -- no lead divides another one
@@ -31,15 +31,15 @@ pub record IsBasisBelow (p n shift : ℕ) (gs bs : List (List Term)) (e : ℕ) :
 
 -- the lead of each member of the module of gs is a multiple of the lead of a member of bs
 abbrev pub HasAllLeads : ℕ → ℕ → List (List Term) → List (List Term) → Type 0
-HasAllLeads p n gs bs = (m : Monomial) → IsLead p n gs m → IsLeadMultiple bs m
+HasAllLeads p n gs bs = (m : Monomial) → IsModuleLead p n gs m → IsLeadMultiple bs m
 
 -- qs is the reduced basis of its module
 pub record IsReduced (p n shift : ℕ) (qs : List (List Term)) : Type 0 where
   pub vectors : All (IsGenerator p n shift) qs
   pub monic : All IsMonic qs
   pub rising : AllPairs (λ m w. cmp_dp m w ≡ Less) (leads qs)
-  pub minimal : (m : Monomial) → Contains (leads qs) m ↔ IsLeast (IsLead p n qs) m
-  pub lower : (q : List Term) → Contains qs q → (m : Monomial) → Contains (lower_monos q) m → IsLead p n qs m → ⊥
+  pub minimal : (m : Monomial) → Contains (leads qs) m ↔ IsLeast (IsModuleLead p n qs) m
+  pub lower : (q : List Term) → Contains qs q → (m : Monomial) → Contains (lower_monos q) m → IsModuleLead p n qs m → ⊥
   pub all_leads : HasAllLeads p n qs qs
 
 -- both lists span one module
@@ -49,5 +49,5 @@ SpanOneModule p n gs qs = (f : List Term) → InModule p n gs f ↔ InModule p n
 -- r differs from v by a member, and none of its monomials is the lead of a member
 pub record IsNormalForm (p n : ℕ) (qs : List (List Term)) (v r : List Term) : Type 0 where
   pub difference : InModule p n qs (sub p v r)
-  pub outside : (m : Monomial) → Contains (map (λ t. t.mono) r) m → IsLead p n qs m → ⊥
+  pub outside : (m : Monomial) → Contains (map (λ t. t.mono) r) m → IsModuleLead p n qs m → ⊥
   pub zero : (r ≡ []) ↔ InModule p n qs v

@@ -7,7 +7,7 @@ use Rattle.polys.specs.declared.term.Term.{Term}
 use Rattle.polys.specs.Terms.{EachMono, IsMonic, IsMonicOf, add, sub, mul}
 use Rattle.polys.specs.Poly.{IsPlain}
 use Rattle.polys.specs.Reduced.{leads, lower_monos}
-use Rattle.graded_modules.specs.Vector.{IsGradedVector, IsFactor, IsGenerator, HasDegree, degree_at, lead_mono}
+use Rattle.graded_modules.specs.Vector.{IsGradedVector, IsFactor, IsGenerator, IsOfDegree, degree_at, lead_mono}
 use Rattle.graded_modules.specs.Module.{InModule, IsLeadUpTo, IsLeadMultiple}
 use Rattle.graded_modules.specs.Deep.{HasHighPair, IsDeep}
 use Rattle.graded_modules.specs.SVector.{IsSumBelow, IsSettled, lead_lcm, s_vector}
@@ -37,7 +37,7 @@ pub record ArePaired (p n shift : ℕ) (f g : List Term) : Type 0 where
 -- module that holds both
 pub record SVectorLaws : Type 0 where
   pub vector : (p n shift : ℕ) (f g : List Term) → ArePaired p n shift f g → IsGradedVector p n (s_vector p f g)
-  pub degree : (p n shift : ℕ) (f g : List Term) → ArePaired p n shift f g → HasDegree shift (degree_at shift (lead_lcm f g)) (s_vector p f g)
+  pub degree : (p n shift : ℕ) (f g : List Term) → ArePaired p n shift f g → IsOfDegree shift (degree_at shift (lead_lcm f g)) (s_vector p f g)
   pub below : (p n shift : ℕ) (f g : List Term) → ArePaired p n shift f g → EachMono (λ m. cmp_dp m (lead_lcm f g) ≡ Less) (s_vector p f g)
   pub member : (p n shift : ℕ) (gs : List (List Term)) (f g : List Term) → ArePaired p n shift f g → InModule p n gs f → InModule p n gs g → InModule p n gs (s_vector p f g)
 
@@ -49,7 +49,7 @@ pub record SettledLaws : Type 0 where
   pub nothing_left : (p n shift : ℕ) (bs : List (List Term)) (m : Monomial) (f : List Term) → IsPrime p → IsGradedVector p n f
       → IsSumBelow p n shift bs m (sub p f []) → IsSumBelow p n shift bs m f
   pub remainder : (p n shift : ℕ) (bs : List (List Term)) (m : Monomial) (f r b : List Term) → IsPrime p → IsGradedVector p n f → IsGradedVector p n r
-      → r ≢ [] → EachMono (λ w. cmp_dp w m ≡ Less) r → HasDegree shift (degree_at shift m) r → IsMonicOf p r b
+      → r ≢ [] → EachMono (λ w. cmp_dp w m ≡ Less) r → IsOfDegree shift (degree_at shift m) r → IsMonicOf p r b
       → IsSumBelow p n shift bs m (sub p f r) → IsSumBelow p n shift (bs ++ b ∷ []) m f
   -- the chain criterion: the lead of h divides the least common multiple, and both pairs with h are settled
   pub chain : (p n shift : ℕ) (bs : List (List Term)) (f g h : List Term) → All (IsGenerator p n shift) bs → ArePaired p n shift f g → ArePaired p n shift f h

@@ -13,8 +13,8 @@ pub record InModule (p n : ℕ) (gs : List (List Term)) (f : List Term) : Type 0
   pub combined : f ≡ combination p factors gs
 
 -- m is the lead of a member
-abbrev pub IsLead : ℕ → ℕ → List (List Term) → Monomial → Type 0
-IsLead p n gs m = (t : Term) × (f : List Term) × InModule p n gs (t ∷ f) × (t.mono ≡ m)
+abbrev pub IsModuleLead : ℕ → ℕ → List (List Term) → Monomial → Type 0
+IsModuleLead p n gs m = (t : Term) × (f : List Term) × InModule p n gs (t ∷ f) × (t.mono ≡ m)
 
 -- m is the lead of a member of degree at most e
 abbrev pub IsLeadUpTo : ℕ → ℕ → ℕ → List (List Term) → ℕ → Monomial → Type 0

@@ -27,12 +27,12 @@ abbrev pub degree_at : ℕ → Monomial → ℕ
 degree_at shift m = total_degree m.exponents + m.component * shift
 
 -- every term has the degree e
-abbrev pub HasDegree : ℕ → ℕ → List Term → Type 0
-HasDegree shift e f = EachMono (λ m. degree_at shift m ≡ e) f
+abbrev pub IsOfDegree : ℕ → ℕ → List Term → Type 0
+IsOfDegree shift e f = EachMono (λ m. degree_at shift m ≡ e) f
 
 -- every term has one and the same degree
 abbrev pub IsHomogeneous : ℕ → List Term → Type 0
-IsHomogeneous shift f = (e : ℕ) × HasDegree shift e f
+IsHomogeneous shift f = (e : ℕ) × IsOfDegree shift e f
 
 -- no term has a degree above e
 abbrev pub IsUpTo : ℕ → ℕ → List Term → Type 0

@@ -7,7 +7,7 @@ use Rattle.polys.specs.Poly.{IsPlain}
 use Rattle.polys.proofs.Degrees.{AtMost, each_degree}
 use Rattle.polys.proofs.Each.{every_zip, every_more}
 use Rattle.polys.proofs.Units.{canonical_same}
-use Rattle.graded_modules.specs.Vector.{IsGraded, HasDegree, degree_at, lead_mono}
+use Rattle.graded_modules.specs.Vector.{IsGraded, IsOfDegree, degree_at, lead_mono}
 use Rattle.homogenising.specs.Homogenised.{dehomogenised}
 use Rattle.homogenising.specs.Laws.{IsHomogeneousPoly, HomogenisedLaws, DehomogenisedLaws}
 use Rattle.homogenising.proofs.Order.{lift}
@@ -36,10 +36,10 @@ module _ (p n : ℕ) (six : n ≤ 6) where
         plain = every_image (Fits K) IsPlain (lift K) f (λ m x. x.0.plain) h;
       }
     where
-      degrees : (K : ℕ) (f : List Term) → EachMono (Fits K) f → HasDegree 0 K (image (lift K) f)
+      degrees : (K : ℕ) (f : List Term) → EachMono (Fits K) f → IsOfDegree 0 K (image (lift K) f)
       degrees K f h = every_image (Fits K) (λ m. degree_at 0 m ≡ K) (lift K) f (λ m x. let d = degree_lift n six K m x.0 x.1 in omega arith) h
 
-  pub degrees_lifted : (K : ℕ) (f : List Term) → EachMono (Fits K) f → HasDegree 0 K (image (lift K) f)
+  pub degrees_lifted : (K : ℕ) (f : List Term) → EachMono (Fits K) f → IsOfDegree 0 K (image (lift K) f)
   degrees_lifted K f h = every_image (Fits K) (λ m. degree_at 0 m ≡ K) (lift K) f (λ m x. let d = degree_lift n six K m x.0 x.1 in omega arith) h
 
   pub lowered_lifted : (K : ℕ) (f : List Term) → IsPoly p n f → dehomogenised p (image (lift K) f) ≡ f

@@ -9,7 +9,7 @@ use Rattle.polys.specs.Terms.{OnlyFirst, IsAffine}
 use Rattle.graded_modules.specs.Vector.{IsGraded}
 use Rattle.homogenising.specs.Homogenised.{with_hom}
 use Rattle.homogenising.proofs.Places.{split_last, set_last, take_last, only_last, only_with}
-use Rattle.monomials.proofs.Last.{cmp_last-push}
+use Rattle.monomials.proofs.Last.{cmp_last-push, level}
 use Rattle.monomials.proofs.Exponents.{total_degree-push}
 
 -- the monomial with these exponents of the six variables and of the homogenising one
@@ -52,9 +52,6 @@ turned K x y h k = go (nat_cmp x y) (ranks x y)
     go Greater g = sym (nat_cmp_is (K - y) (K - x) Greater (omega arith))
 
 -- ---- the order
-
-level : (x : ℕ) → nat_cmp x x ≡ Equal
-level x = sym (nat_cmp_is x x Equal refl)
 
 pub lifted_order : (K : ℕ) (a b : List ℕ) → length a ≡ length b → total_degree a ≤ K → total_degree b ≤ K
     → cmp_dp (placed a (K - total_degree a) 0) (placed b (K - total_degree b) 0) ≡ cmp_dp (placed a 0 0) (placed b 0 0)

@@ -15,7 +15,7 @@ use Rattle.ideal_laws.proofs.Ideals.{in_poly}
 use Rattle.polys.proofs.Units.{canonical_same}
 use Rattle.polys.proofs.Weights.{normal_canon, is_canonical}
 use Rattle.graded_modules.specs.Vector.{IsGraded, IsFactor, lead_mono}
-use Rattle.graded_modules.specs.Module.{InModule, IsLead}
+use Rattle.graded_modules.specs.Module.{InModule, IsModuleLead}
 use Rattle.graded_modules.specs.Bases.{HasAllLeads}
 use Rattle.homogenising.specs.Homogenised.{dehomogenised, all_dehomogenised}
 use Rattle.homogenising.specs.Laws.{IsHomogeneousPoly, HasAffineLeads, LeadsStayLeads}
@@ -153,7 +153,7 @@ module _ (p n : ℕ) (six : n ≤ 6) (pos : 0 < p) where
 
   -- the lead of a member of the ideal, lifted far enough, is that of a member of the graded ideal
   lift_lead : (gs : List (List Term)) (t : Term) (f : List Term) → All (IsHomogeneousPoly p n) gs → InIdeal p n (all_dehomogenised p gs) (t ∷ f)
-      → (K : ℕ) × IsLead p n gs (lift K t.mono)
+      → (K : ℕ) × IsModuleLead p n gs (lift K t.mono)
   lift_lead gs t f a r =
       let h = in_poly p n (all_dehomogenised p gs) (t ∷ f) pos (lower_polys gs a) r in
       let c = lift_combination r.factors gs r.polys a (r.as_many ∙ length-map gs (dehomogenised p)) in

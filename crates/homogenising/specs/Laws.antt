@@ -1,6 +1,7 @@
 -- Laws of homogenising: ideals of polynomials and graded modules of one component.
 use Rattle.std.specs.Prelude.{◌≡◌, ◌↔◌, ℕ, ◌≤◌, List, [], ◌∷◌, map, All, AllPairs, Contains}
 use Rattle.std.specs.declared.cmp.Ordering.TheVariants.{Less}
+use Rattle.monomials.specs.declared.mono.TheConstants.{MAX_VARIABLES}
 use Rattle.monomials.specs.Mono.{Monomial, cmp_dp}
 use Rattle.prime_field.specs.Primes.{IsPrime}
 use Rattle.polys.specs.declared.term.Term.{Term}
@@ -8,7 +9,7 @@ use Rattle.polys.specs.Terms.{EachMono, IsPoly, IsMonic, degree_of, sub}
 use Rattle.polys.specs.Poly.{IsPlain}
 use Rattle.polys.specs.Ideal.{InIdeal}
 use Rattle.polys.specs.Reduced.{leads, lower_monos, Reduced, IsReducedBasis}
-use Rattle.graded_modules.specs.Vector.{IsGenerator, HasDegree, lead_mono}
+use Rattle.graded_modules.specs.Vector.{IsGenerator, IsOfDegree, lead_mono}
 use Rattle.graded_modules.specs.Module.{InModule, IsLeadMultiple}
 use Rattle.graded_modules.specs.Bases.{AreApart, HasAllLeads}
 use Rattle.homogenising.specs.Homogenised.{with_hom, homogenised, dehomogenised, all_dehomogenised}
@@ -20,16 +21,16 @@ pub record IsHomogeneousPoly (p n : ℕ) (g : List Term) : Type 0 where
 
 -- the homogenised polynomial is homogeneous of the same degree, and setting the variable to 1 gives the polynomial back
 pub record HomogenisedLaws : Type 0 where
-  pub homogeneous : (p n : ℕ) (f : List Term) → n ≤ 6 → IsPoly p n f → IsHomogeneousPoly p n (homogenised f)
-  pub degree : (p n : ℕ) (f : List Term) → n ≤ 6 → IsPoly p n f → HasDegree 0 (degree_of f) (homogenised f)
-  pub back : (p n : ℕ) (f : List Term) → n ≤ 6 → IsPoly p n f → dehomogenised p (homogenised f) ≡ f
+  pub homogeneous : (p n : ℕ) (f : List Term) → n ≤ MAX_VARIABLES → IsPoly p n f → IsHomogeneousPoly p n (homogenised f)
+  pub degree : (p n : ℕ) (f : List Term) → n ≤ MAX_VARIABLES → IsPoly p n f → IsOfDegree 0 (degree_of f) (homogenised f)
+  pub back : (p n : ℕ) (f : List Term) → n ≤ MAX_VARIABLES → IsPoly p n f → dehomogenised p (homogenised f) ≡ f
 
 -- where the variable becomes 1 in a homogeneous polynomial, no terms meet, and the lead stays the lead
 pub record DehomogenisedLaws : Type 0 where
-  pub terms : (p n : ℕ) (g : List Term) → n ≤ 6 → IsHomogeneousPoly p n g → dehomogenised p g ≡ map (λ t. record { coeff = t.coeff; mono = with_hom 0 t.mono }) g
-  pub poly : (p n : ℕ) (g : List Term) → n ≤ 6 → IsHomogeneousPoly p n g → IsPoly p n (dehomogenised p g)
-  pub lead : (p n : ℕ) (g : List Term) → n ≤ 6 → IsHomogeneousPoly p n g → lead_mono (dehomogenised p g) ≡ with_hom 0 (lead_mono g)
-  pub monic : (p n : ℕ) (g : List Term) → n ≤ 6 → IsHomogeneousPoly p n g → IsMonic g → IsMonic (dehomogenised p g)
+  pub terms : (p n : ℕ) (g : List Term) → n ≤ MAX_VARIABLES → IsHomogeneousPoly p n g → dehomogenised p g ≡ map (λ t. record { coeff = t.coeff; mono = with_hom 0 t.mono }) g
+  pub poly : (p n : ℕ) (g : List Term) → n ≤ MAX_VARIABLES → IsHomogeneousPoly p n g → IsPoly p n (dehomogenised p g)
+  pub lead : (p n : ℕ) (g : List Term) → n ≤ MAX_VARIABLES → IsHomogeneousPoly p n g → lead_mono (dehomogenised p g) ≡ with_hom 0 (lead_mono g)
+  pub monic : (p n : ℕ) (g : List Term) → n ≤ MAX_VARIABLES → IsHomogeneousPoly p n g → IsMonic g → IsMonic (dehomogenised p g)
 
 -- the lead of each member of the ideal of is is a multiple of the lead of a member of ds
 abbrev pub HasAffineLeads : ℕ → ℕ → List (List Term) → List (List Term) → Type 0
@@ -42,7 +43,7 @@ pub record LeadsStay (p n : ℕ) (gs qs : List (List Term)) : Type 0 where
 
 abbrev pub LeadsStayLeads : Type 0
 LeadsStayLeads =
-    (p n : ℕ) (gs qs : List (List Term)) → IsPrime p → n ≤ 6 → All (IsHomogeneousPoly p n) gs → All (IsHomogeneousPoly p n) qs → All (InModule p n gs) qs
+    (p n : ℕ) (gs qs : List (List Term)) → IsPrime p → n ≤ MAX_VARIABLES → All (IsHomogeneousPoly p n) gs → All (IsHomogeneousPoly p n) qs → All (InModule p n gs) qs
     → HasAllLeads p n gs qs → LeadsStay p n gs qs
 
 -- members with all leads of an ideal, none superfluous and with no lower monomial that a lead divides, are its reduced

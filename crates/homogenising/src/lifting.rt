@@ -1,5 +1,6 @@
 // Homogenising, and setting the homogenising variable to 1.
 ghost use Rattle.std.specs.Prelude.{◌≡◌, ◌≤◌, ℕ, IfOk};
+ghost use Rattle.monomials.specs.declared.mono.TheConstants.{MAX_VARIABLES, MAX_DEGREE};
 ghost use Rattle.homogenising.specs.Homogenised.{homogenised_to, dehomogenised, without_hom, IsUnlifted};
 ghost use Rattle.homogenising.specs.Laws.{IsHomogeneousPoly};
 ghost use Rattle.monomials.specs.Mono.{IsMono};
@@ -13,7 +14,7 @@ use std::alloc::{AllocError, Global};
 fn lifted_terms(alloc: Global, f: &[Term], degree: u32) -> Result<Vec<Term>, AllocError>
     requires monos { EachMono IsUnlifted f.now }
     requires no_smaller { degree_of f.now ≤ degree }
-    requires room { degree ≤ 60000 }
+    requires room { degree ≤ MAX_DEGREE }
     ensures { IfOk result (λ v. v.items ≡ homogenised_to degree f.now) }
 {
     let mut terms = Vec::new(alloc);
@@ -37,10 +38,10 @@ pub fn homogenised_to(
     degree: u32,
     f: &Poly,
 ) -> Result<Poly, NoMemory>
-    requires variables { variables ≤ 6 }
+    requires variables { variables ≤ MAX_VARIABLES }
     requires poly { IsPoly f.now.prime variables f.now.terms }
     requires no_smaller { degree_of f.now.terms ≤ degree }
-    requires room { degree ≤ 60000 }
+    requires room { degree ≤ MAX_DEGREE }
     ensures prime { IfOk result (λ g. g.prime ≡ f.now.prime) }
     ensures terms { IfOk result (λ g. g.terms ≡ homogenised_to degree f.now.terms) }
 {
@@ -68,7 +69,7 @@ fn lowered_terms(alloc: Global, f: &[Term]) -> Result<Vec<Term>, AllocError>
 ///
 /// Greuel and Pfister, section on homogenisation.
 pub fn dehomogenised(alloc: Global, variables: u32, f: &Poly) -> Result<Poly, NoMemory>
-    requires variables { variables ≤ 6 }
+    requires variables { variables ≤ MAX_VARIABLES }
     requires homogeneous { IsHomogeneousPoly f.now.prime variables f.now.terms }
     ensures prime { IfOk result (λ g. g.prime ≡ f.now.prime) }
     ensures terms { IfOk result (λ g. g.terms ≡ dehomogenised f.now.prime f.now.terms) }

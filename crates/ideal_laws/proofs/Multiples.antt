@@ -5,7 +5,7 @@ use Rattle.std.proofs.lemmas.Nat.{mul-mod}
 use Rattle.monomials.specs.Mono.{Monomial, times, unit}
 use Rattle.polys.specs.declared.term.Term.{Term}
 use Rattle.polys.specs.Terms.{EachMono, normal, add, scaled, multiple, products, mul}
-use Rattle.polys.proofs.Weights.{weigh, Alike, weigh-append, weigh-normal, normal_ext, mod_plus}
+use Rattle.polys.proofs.Weights.{weigh, Alike, weigh-append, weigh-normal, normal_ext, mod_plus, mod_times}
 use Rattle.polys.proofs.Sums.{mul_assoc, mul_comm, mul_normal_left, mul_normal_right, weigh-products}
 use Rattle.polys.proofs.Units.{weigh-scaled}
 use Rattle.polys.proofs.Products.{mul-append}
@@ -13,9 +13,6 @@ use Rattle.polys.proofs.Leads.{Seven}
 use Rattle.polys.proofs.Affine.{mul_constant}
 
 -- ---- multiples by numbers
-
-pub mod_times : (p c a b : ℕ) → a % p ≡ b % p → (c * a) % p ≡ (c * b) % p
-mod_times p c a b h = mul-mod c a p ∙ (λ i. ((c % p) * h i) % p) ∙ sym (mul-mod c b p)
 
 pub weigh-multiple : (p c : ℕ) (χ : Monomial → ℕ) (f : List Term) → weigh χ (multiple p c f) % p ≡ (c * weigh χ f) % p
 weigh-multiple p c χ f = weigh-normal p χ (scaled c f) ∙ ap (λ (n : ℕ). n % p) (weigh-scaled χ c f)

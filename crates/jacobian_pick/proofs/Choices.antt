@@ -17,7 +17,7 @@ use Rattle.denominator_module.proofs.Firsts.{all_from}
 use Rattle.denominator_module.specs.Module.{IsDeepDenominator}
 use Rattle.lift_colon.specs.Lifted.{LiftedData, IsLifted}
 use Rattle.problem.specs.declared.problem.Problem.{Problem}
-use Rattle.problem.specs.Problem.{ProblemData, curve_of, IsFit, IsReady, problem_data}
+use Rattle.problem.specs.Problem.{ProblemData, curve_of, IsFit, HasFitPolynomials, problem_data}
 use Rattle.jacobian_pick.specs.Candidates.{AreCandidates}
 use Rattle.jacobian_pick.specs.Choice.{HasDeepIdeal, HasProperIdeal, HasDeepModule, IsInfinite, IsGood, IsFirstGood, IsChosen, IsChosenBy, HasNoDenominator, IsReason, IsCause, IsLiftedOf, IsFound, IsPicked, curve_of_lifted}
 use Rattle.jacobian_pick.specs.Lists.{IsBasisOf, IsUpTo}
@@ -68,7 +68,7 @@ pub basis_as : (problem : Problem) (basis ideal : List Polynomial) → IsBasisOf
 basis_as problem basis ideal known e =
     subst (λ w. IsReducedBasis problem.prime (length problem.letters) (InIdeal problem.prime (length problem.letters) (terms_of problem.generators)) (terms_of w)) (sym e) known.reduced
 
-module _ (problem : Problem) (prime : IsPrime problem.prime) (ready : IsReady problem) (d : Polynomial) (l : LiftedData) (od : IsOver problem.prime (length problem.letters) d)
+module _ (problem : Problem) (prime : IsPrime problem.prime) (ready : HasFitPolynomials problem) (d : Polynomial) (l : LiftedData) (od : IsOver problem.prime (length problem.letters) d)
     (ep : l.prime ≡ problem.prime) (en : l.variables ≡ length problem.letters) (ed : l.denominator ≡ d)
     (basis : IsReducedBasis problem.prime (length problem.letters) (InIdeal problem.prime (length problem.letters) (terms_of problem.generators)) (terms_of l.ideal)) where
   two : 1 < problem.prime
@@ -137,7 +137,7 @@ reason_is_bad problem cap d Memory m r g = m refl
 
 -- ---- the chosen one
 
-pub handed_over : (problem : Problem) (d m : Polynomial) → IsPrime problem.prime → IsReady problem → problem.denominator ≡ Some d → m.prime ≡ d.prime → IsMonicOf d.prime d.terms m.terms
+pub handed_over : (problem : Problem) (d m : Polynomial) → IsPrime problem.prime → HasFitPolynomials problem → problem.denominator ≡ Some d → m.prime ≡ d.prime → IsMonicOf d.prime d.terms m.terms
     → IsUpTo problem.prime (length problem.letters) 60 m × IsMonicOf problem.prime d.terms m.terms
 handed_over problem d m prime ready given e h =
     let u : IsUpTo problem.prime (length problem.letters) 60 d =
@@ -201,7 +201,7 @@ picked_over : (problem : Problem) (cap : ℕ) (l : LiftedData) → IsPicked (pro
 picked_over problem cap l h =
     subst (λ (n : ℕ). IsOver problem.prime n l.denominator) h.lifted.variables (subst (λ (q : ℕ). IsOver q l.variables l.denominator) h.lifted.prime h.known.denominator)
 
-pub fit : (problem : Problem) (cap : ℕ) (l : LiftedData) → IsReady problem → HasProperIdeal (problem_data problem) cap → IsPicked (problem_data problem) cap l → Fit (curve_of_lifted l)
+pub fit : (problem : Problem) (cap : ℕ) (l : LiftedData) → HasFitPolynomials problem → HasProperIdeal (problem_data problem) cap → IsPicked (problem_data problem) cap l → Fit (curve_of_lifted l)
 fit problem cap l ready p h = record {
   some_variables = h.known.some_variables;
   six_variables = h.known.six_variables;
@@ -221,7 +221,7 @@ fit problem cap l ready p h = record {
     od = picked_over problem cap l h
 
 -- the dimension modulo the denominator is that of the bases
-pub same_dimension : {E : Type 0} (problem : Problem) (cap : ℕ) (r : Result LiftedData E) → IsReady problem → IfOk r (λ l. IsPicked (problem_data problem) cap l)
+pub same_dimension : {E : Type 0} (problem : Problem) (cap : ℕ) (r : Result LiftedData E) → HasFitPolynomials problem → IfOk r (λ l. IsPicked (problem_data problem) cap l)
     → IfOk r (λ l. (N : ℕ) → HasDimModulo (data_of (curve_of_lifted l)) N ↔ HasDimModulo (curve_of (problem_data problem) l.denominator.terms) N)
 same_dimension problem cap (Err e) ready h = h
 same_dimension problem cap (Ok l) ready h =
@@ -236,7 +236,7 @@ same_dimension problem cap (Ok l) ready h =
     od : IsOver problem.prime (length problem.letters) l.denominator
     od = picked_over problem cap l h
 
-pub fit_all : {E : Type 0} (problem : Problem) (cap : ℕ) (r : Result LiftedData E) → IsReady problem → HasProperIdeal (problem_data problem) cap → IfOk r (λ l. IsPicked (problem_data problem) cap l)
+pub fit_all : {E : Type 0} (problem : Problem) (cap : ℕ) (r : Result LiftedData E) → HasFitPolynomials problem → HasProperIdeal (problem_data problem) cap → IfOk r (λ l. IsPicked (problem_data problem) cap l)
     → IfOk r (λ l. Fit (curve_of_lifted l))
 fit_all problem cap (Ok l) ready p h = fit problem cap l ready p h
 fit_all problem cap (Err e) ready p h = h

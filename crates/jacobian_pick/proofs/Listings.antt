@@ -11,7 +11,7 @@ use Rattle.polys.specs.Poly.{Polynomial, terms_of}
 use Rattle.problem.specs.declared.problem.Problem.{Problem}
 use Rattle.jacobian_pick.specs.Candidates.{AreKept, AreFirst, AreSecond, AreThird, AreCandidates, jacobian, over_pairs, over_others, number_sums, variable_sums}
 use Rattle.jacobian_pick.specs.Lists.{polynomials, IsUpTo}
-use Rattle.problem.specs.Problem.{IsReady, problem_data}
+use Rattle.problem.specs.Problem.{HasFitPolynomials, problem_data}
 use Rattle.jacobian_pick.proofs.Lows.{IsLow, jacobian_low, number_sums_low, variable_sums_low}
 use Rattle.jacobian_pick.proofs.Memberships.{listed, over_raw, lows, fits_up_to}
 
@@ -38,7 +38,7 @@ module _ (problem : Problem) (prime : IsPrime problem.prime) where
       (subst (λ w. AreKept problem.prime (length problem.letters) (terms_of problem.generators) (terms_of w) (terms_of ms)) e k)
   kept_of D xs raw list (Err x) h e a k = a
 
-  pub first_raw : (v : ℕ) (gens raw : List Polynomial) → IsReady problem → v ≡ length problem.letters → gens ≡ problem.generators → raw ≡ polynomials problem.prime (jacobian problem.prime v (terms_of gens))
+  pub first_raw : (v : ℕ) (gens raw : List Polynomial) → HasFitPolynomials problem → v ≡ length problem.letters → gens ≡ problem.generators → raw ≡ polynomials problem.prime (jacobian problem.prime v (terms_of gens))
       → IsRaw problem 118 (jacobian problem.prime (length problem.letters) (terms_of problem.generators)) raw
   first_raw v gens raw ready e g r = record {
     is = r ∙ (λ i. polynomials problem.prime (jacobian problem.prime (e i) (terms_of (g i))));

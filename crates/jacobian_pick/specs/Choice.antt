@@ -2,6 +2,7 @@
 -- Steidel, Parallel Algorithms for Normalization).
 use Rattle.std.specs.Bool.{⊤}
 use Rattle.std.specs.Prelude.{◌≡◌, ℕ, ◌<◌, ◌≤◌, List, ◌∷◌, ◌++◌, length, All, Option, None, Some}
+use Rattle.polys.specs.declared.curve.TheConstants.{LARGEST_DIMENSION, MAX_DENOMINATOR_DEGREE}
 use Rattle.polys.specs.declared.curve.Curve.{Curve}
 use Rattle.polys.specs.declared.term.Term.{Term}
 use Rattle.polys.specs.Curve.{HasDimModulo, HasRegular}
@@ -61,7 +62,7 @@ IsWide problem d = (N : ℕ) × (256 < N) × HasDimModulo (curve_of problem d) N
 -- are zero divisors, and x + y is good
 pub record IsGood (problem : ProblemData) (cap : ℕ) (d : List Term) : Type 0 where
   pub allowed : IsAllowed problem cap d
-  pub narrow : (N : ℕ) × (N ≤ 256) × HasDimModulo (curve_of problem d) N
+  pub narrow : (N : ℕ) × (N ≤ LARGEST_DIMENSION) × HasDimModulo (curve_of problem d) N
 
 -- ---- the choice
 
@@ -134,13 +135,13 @@ curve_of_lifted l = record { prime = l.prime; variables = l.variables; ideal = l
 pub record IsFound (problem : ProblemData) (cap : ℕ) (list : List (List Term)) (l : LiftedData) : Type 0 where
   pub lifted : IsLiftedOf problem l
   pub known : IsLifted l
-  pub low : degree_of l.denominator.terms ≤ 119
+  pub low : degree_of l.denominator.terms ≤ MAX_DENOMINATOR_DEGREE
   pub first : IsFirstGood problem cap list l.denominator.terms
 
 -- for the chosen denominator
 pub record IsPicked (problem : ProblemData) (cap : ℕ) (l : LiftedData) : Type 0 where
   pub lifted : IsLiftedOf problem l
   pub known : IsLifted l
-  pub low : degree_of l.denominator.terms ≤ 119
+  pub low : degree_of l.denominator.terms ≤ MAX_DENOMINATOR_DEGREE
   pub good : IsGood problem cap l.denominator.terms
   pub chosen : IsChosen problem cap l.denominator.terms

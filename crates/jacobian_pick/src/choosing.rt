@@ -1,8 +1,9 @@
 // The choice of a denominator.
 ghost use Rattle.std.specs.Prelude.{◌≡◌, ◌≢◌, ◌↔◌, ◌⊎◌, ◌≤◌, ℕ, All, Err, IfOk, IfErr, IfSome, IsNone, MatchResult, Some, None, length};
+ghost use Rattle.polys.specs.declared.curve.TheConstants.{MAX_DENOMINATOR_DEGREE};
 ghost use Rattle.jacobian_pick.specs.Choice.{HasDeepIdeal, HasProperIdeal, IsGood, IsChosen, IsReason, IsCause, IsLiftedOf, IsFound, IsPicked, curve_of_lifted};
 ghost use Rattle.jacobian_pick.specs.Lists.{IsBasisOf, IsUpTo};
-ghost use Rattle.problem.specs.Problem.{IsReady, problem_data, curve_of};
+ghost use Rattle.problem.specs.Problem.{HasFitPolynomials, problem_data, curve_of};
 ghost use Rattle.jacobian_pick.specs.declared.choosing.PickStop.TheVariants.{Memory};
 ghost use Rattle.lift_colon.specs.Lifted.{IsLifted};
 ghost use Rattle.module_basis.specs.declared.cap.TheConstants.{MAX_CAP};
@@ -62,7 +63,7 @@ impl From<NoMemory> for PickStop {
 
 /// The reduced basis of the ideal of the problem.
 pub fn ideal_basis(alloc: Global, problem: &Problem, cap: u32) -> Result<List<Poly>, PickStop>
-    requires ready { IsReady problem.now }
+    requires ready { HasFitPolynomials problem.now }
     requires some_cap { 1 ≤ cap }
     requires cap { cap ≤ MAX_CAP }
     ensures basis { IfOk result (λ basis. IsBasisOf problem.now basis) }
@@ -85,7 +86,7 @@ fn tried(
     d: &Poly,
     cap: u32,
 ) -> Result<Lifted, PickStop>
-    requires ready { IsReady problem.now }
+    requires ready { HasFitPolynomials problem.now }
     requires basis { IsBasisOf problem.now basis.now }
     requires denominator { IsOver problem.now.prime (length problem.now.letters) d.now }
     requires not_deep { HasDeepIdeal (problem_data problem.now) cap → ⊥ }
@@ -131,9 +132,9 @@ fn first_good(
     list: &[Poly],
     cap: u32,
 ) -> Result<Option<Lifted>, NoMemory>
-    requires ready { IsReady problem.now }
+    requires ready { HasFitPolynomials problem.now }
     requires basis { IsBasisOf problem.now basis.now }
-    requires list { All (IsUpTo problem.now.prime (length problem.now.letters) 119) list.now }
+    requires list { All (IsUpTo problem.now.prime (length problem.now.letters) MAX_DENOMINATOR_DEGREE) list.now }
     requires not_deep { HasDeepIdeal (problem_data problem.now) cap → ⊥ }
     requires some_cap { 1 ≤ cap }
     requires cap { cap ≤ MAX_CAP }
@@ -160,7 +161,7 @@ fn by_candidates(
     basis: &[Poly],
     cap: u32,
 ) -> Result<Lifted, PickStop>
-    requires ready { IsReady problem.now }
+    requires ready { HasFitPolynomials problem.now }
     requires basis { IsBasisOf problem.now basis.now }
     requires none { problem.now.denominator ≡ None }
     requires proper { HasProperIdeal (problem_data problem.now) cap }
@@ -184,7 +185,7 @@ fn by_hand(
     d: &Poly,
     cap: u32,
 ) -> Result<Lifted, PickStop>
-    requires ready { IsReady problem.now }
+    requires ready { HasFitPolynomials problem.now }
     requires basis { IsBasisOf problem.now basis.now }
     requires given { problem.now.denominator ≡ Some d.now }
     requires proper { HasProperIdeal (problem_data problem.now) cap }
@@ -207,7 +208,7 @@ fn by_hand(
 /// under the cap; `Unit` where 1 is in the ideal; for a denominator that is handed in `DenominatorDeep`, `ZeroDivisor`,
 /// `Infinite`, `Wide`; `NoDenominator` where none is handed in and no candidate is good. `Memory` when out of memory.
 pub fn pick(alloc: Global, problem: &Problem, cap: u32) -> Result<Lifted, PickStop>
-    requires ready { IsReady problem.now }
+    requires ready { HasFitPolynomials problem.now }
     requires some_cap { 1 ≤ cap }
     requires cap { cap ≤ MAX_CAP }
     ensures lifted { IfOk result (λ l. IsLiftedOf (problem_data problem.now) l) }

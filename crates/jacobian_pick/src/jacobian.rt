@@ -2,7 +2,7 @@
 ghost use Rattle.std.specs.Prelude.{◌≡◌, ◌<◌, ◌++◌, [], ◌∷◌, All, IfOk, OnOk, flat_map};
 ghost use Rattle.jacobian_pick.specs.Candidates.{over_pairs, partials, minor, row_minors, jacobian};
 ghost use Rattle.jacobian_pick.specs.Lists.{polynomials, IsUpTo};
-ghost use Rattle.problem.specs.declared.limits.TheConstants.{MAX_DEGREE};
+ghost use Rattle.problem.specs.declared.limits.TheConstants.{MAX_VALUE_DEGREE};
 ghost use Rattle.polys.specs.Poly.{terms_of};
 ghost use Rattle.polys.specs.Terms.{one};
 
@@ -11,9 +11,12 @@ use polys::Poly;
 use prime_field::Prime;
 use std::alloc::Global;
 
+/// The greatest degree of an entry or a minor: twice the greatest degree of a value, less two.
+pub const MAX_MINOR_DEGREE: u32 = 118;
+
 // The partial derivatives of each polynomial by the first variable and by the second.
 fn partials(alloc: Global, prime: Prime, gens: &[Poly]) -> Result<List<Poly>, NoMemory>
-    requires { All (IsUpTo prime 2 MAX_DEGREE) gens.now }
+    requires { All (IsUpTo prime 2 MAX_VALUE_DEGREE) gens.now }
     ensures { IfOk result (λ fs. fs ≡ polynomials prime (flat_map (partials prime) (terms_of gens.now))) }
 {
     let mut entries = List::new(alloc);
@@ -26,8 +29,8 @@ fn partials(alloc: Global, prime: Prime, gens: &[Poly]) -> Result<List<Poly>, No
 
 // The minor of the rows of `f` and `g` and of the columns `k` and `l`.
 fn minor(prime: Prime, f: &Poly, g: &Poly, k: u32, l: u32) -> Result<Poly, NoMemory>
-    requires f { IsUpTo prime 3 MAX_DEGREE f.now }
-    requires g { IsUpTo prime 3 MAX_DEGREE g.now }
+    requires f { IsUpTo prime 3 MAX_VALUE_DEGREE f.now }
+    requires g { IsUpTo prime 3 MAX_VALUE_DEGREE g.now }
     requires k { k < 3 }
     requires l { l < 3 }
     ensures { IfOk result (λ m. m ≡ record { prime = prime; terms = minor prime k l f.now.terms g.now.terms }) }
@@ -39,8 +42,8 @@ fn minor(prime: Prime, f: &Poly, g: &Poly, k: u32, l: u32) -> Result<Poly, NoMem
 
 // Puts the minors of the rows of `f` and `g` at the end of `into`.
 fn push_row_minors(prime: Prime, f: &Poly, g: &Poly, into: &mut List<Poly>) -> Result<(), NoMemory>
-    requires f { IsUpTo prime 3 MAX_DEGREE f.now }
-    requires g { IsUpTo prime 3 MAX_DEGREE g.now }
+    requires f { IsUpTo prime 3 MAX_VALUE_DEGREE f.now }
+    requires g { IsUpTo prime 3 MAX_VALUE_DEGREE g.now }
     ensures { OnOk result (into.new ≡ into.old ++ polynomials prime (row_minors prime f.now.terms g.now.terms)) }
 {
     into.push(minor(prime, f, g, 0, 1)?)?;
@@ -50,8 +53,8 @@ fn push_row_minors(prime: Prime, f: &Poly, g: &Poly, into: &mut List<Poly>) -> R
 
 // Puts the minors of the row of `f` and each of the rows at the end of `into`.
 fn push_minors(prime: Prime, f: &Poly, rows: &[Poly], into: &mut List<Poly>) -> Result<(), NoMemory>
-    requires f { IsUpTo prime 3 MAX_DEGREE f.now }
-    requires rows { All (IsUpTo prime 3 MAX_DEGREE) rows.now }
+    requires f { IsUpTo prime 3 MAX_VALUE_DEGREE f.now }
+    requires rows { All (IsUpTo prime 3 MAX_VALUE_DEGREE) rows.now }
     ensures { OnOk result (into.new ≡ into.old ++ polynomials prime (flat_map (row_minors prime f.now.terms) (terms_of rows.now))) }
 {
     for g in rows {
@@ -62,7 +65,7 @@ fn push_minors(prime: Prime, f: &Poly, rows: &[Poly], into: &mut List<Poly>) -> 
 
 // The minors of each two rows of three columns.
 fn minors(alloc: Global, prime: Prime, gens: &[Poly]) -> Result<List<Poly>, NoMemory>
-    requires { All (IsUpTo prime 3 MAX_DEGREE) gens.now }
+    requires { All (IsUpTo prime 3 MAX_VALUE_DEGREE) gens.now }
     ensures { IfOk result (λ fs. fs ≡ polynomials prime (over_pairs (row_minors prime) (terms_of gens.now))) }
 {
     let mut minors = List::new(alloc);
@@ -89,7 +92,7 @@ pub fn jacobian(
     variables: u32,
     gens: &[Poly],
 ) -> Result<List<Poly>, NoMemory>
-    requires { All (IsUpTo prime variables MAX_DEGREE) gens.now }
+    requires { All (IsUpTo prime variables MAX_VALUE_DEGREE) gens.now }
     ensures { IfOk result (λ fs. fs ≡ polynomials prime (jacobian prime variables (terms_of gens.now))) }
 {
     match variables {

@@ -1,8 +1,10 @@
 // The candidates for a denominator.
 ghost use Rattle.std.specs.Prelude.{◌≡◌, ◌≤◌, ℕ, All, IfOk, length, take};
+ghost use Rattle.polys.specs.declared.curve.TheConstants.{MAX_DENOMINATOR_DEGREE};
+ghost use Rattle.jacobian_pick.specs.declared.jacobian.TheConstants.{MAX_MINOR_DEGREE};
 ghost use Rattle.jacobian_pick.specs.Candidates.{AreFirst, AreSecond, AreThird, AreCandidates};
 ghost use Rattle.jacobian_pick.specs.Lists.{IsBasisOf, IsUpTo};
-ghost use Rattle.problem.specs.Problem.{IsReady, problem_data};
+ghost use Rattle.problem.specs.Problem.{HasFitPolynomials, problem_data};
 ghost use Rattle.polys.specs.Poly.{terms_of};
 
 use crate::jacobian::jacobian;
@@ -22,9 +24,9 @@ fn six(list: &[Poly]) -> &[Poly]
 
 // What the Jacobian matrix gives: without the members of the ideal, and monic.
 fn first_list(alloc: Global, problem: &Problem, basis: &[Poly]) -> Result<List<Poly>, NoMemory>
-    requires ready { IsReady problem.now }
+    requires ready { HasFitPolynomials problem.now }
     requires basis { IsBasisOf problem.now basis.now }
-    ensures low { IfOk result (λ ms. All (IsUpTo problem.now.prime (length problem.now.letters) 118) ms) }
+    ensures low { IfOk result (λ ms. All (IsUpTo problem.now.prime (length problem.now.letters) MAX_MINOR_DEGREE) ms) }
     ensures exact { IfOk result (λ ms. AreFirst (problem_data problem.now) (terms_of ms)) }
 {
     let _prime = problem.prime.get();
@@ -45,10 +47,10 @@ fn second_list(
     basis: &[Poly],
     first: &[Poly],
 ) -> Result<List<Poly>, NoMemory>
-    requires ready { IsReady problem.now }
+    requires ready { HasFitPolynomials problem.now }
     requires basis { IsBasisOf problem.now basis.now }
-    requires first { All (IsUpTo problem.now.prime (length problem.now.letters) 118) first.now }
-    ensures low { IfOk result (λ ms. All (IsUpTo problem.now.prime (length problem.now.letters) 119) ms) }
+    requires first { All (IsUpTo problem.now.prime (length problem.now.letters) MAX_MINOR_DEGREE) first.now }
+    ensures low { IfOk result (λ ms. All (IsUpTo problem.now.prime (length problem.now.letters) MAX_DENOMINATOR_DEGREE) ms) }
     ensures exact { IfOk result (λ ms. AreSecond (problem_data problem.now) (terms_of first.now) (terms_of ms)) }
 {
     let _prime = problem.prime.get();
@@ -63,10 +65,10 @@ fn third_list(
     basis: &[Poly],
     first: &[Poly],
 ) -> Result<List<Poly>, NoMemory>
-    requires ready { IsReady problem.now }
+    requires ready { HasFitPolynomials problem.now }
     requires basis { IsBasisOf problem.now basis.now }
-    requires first { All (IsUpTo problem.now.prime (length problem.now.letters) 118) first.now }
-    ensures low { IfOk result (λ ms. All (IsUpTo problem.now.prime (length problem.now.letters) 119) ms) }
+    requires first { All (IsUpTo problem.now.prime (length problem.now.letters) MAX_MINOR_DEGREE) first.now }
+    ensures low { IfOk result (λ ms. All (IsUpTo problem.now.prime (length problem.now.letters) MAX_DENOMINATOR_DEGREE) ms) }
     ensures exact { IfOk result (λ ms. AreThird (problem_data problem.now) (terms_of first.now) (terms_of ms)) }
 {
     let _prime = problem.prime.get();
@@ -74,7 +76,8 @@ fn third_list(
     kept(alloc, problem, basis, raw.as_slice())
 }
 
-/// The candidates for a denominator, each monic and of degree at most 119, where `basis` is the reduced basis of the
+/// The candidates for a denominator, each monic and of degree at most
+/// [`polys::MAX_DENOMINATOR_DEGREE`], where `basis` is the reduced basis of the
 /// ideal of the problem.
 ///
 /// They come from the Jacobian matrix (Greuel and Pfister, section on the singular locus): with one variable the
@@ -84,9 +87,9 @@ fn third_list(
 /// # Errors
 /// `NoMemory` when out of memory.
 pub fn candidates(alloc: Global, problem: &Problem, basis: &[Poly]) -> Result<List<Poly>, NoMemory>
-    requires ready { IsReady problem.now }
+    requires ready { HasFitPolynomials problem.now }
     requires basis { IsBasisOf problem.now basis.now }
-    ensures low { IfOk result (λ cs. All (IsUpTo problem.now.prime (length problem.now.letters) 119) cs) }
+    ensures low { IfOk result (λ cs. All (IsUpTo problem.now.prime (length problem.now.letters) MAX_DENOMINATOR_DEGREE) cs) }
     ensures exact { IfOk result (λ cs. AreCandidates (problem_data problem.now) (terms_of cs)) }
 {
     let mut all = first_list(alloc, problem, basis)?;

@@ -1,5 +1,7 @@
 // Sums of a polynomial with multiples of another one.
 ghost use Rattle.std.specs.Prelude.{◌≡◌, ◌<◌, ◌≤◌, ◌++◌, ℕ, [], All, IfOk, OnOk, flat_map};
+ghost use Rattle.jacobian_pick.specs.declared.jacobian.TheConstants.{MAX_MINOR_DEGREE};
+ghost use Rattle.monomials.specs.declared.mono.TheConstants.{MAX_VARIABLES};
 ghost use Rattle.jacobian_pick.specs.Candidates.{over_pairs, over_others, number_sums, variable_sums};
 ghost use Rattle.jacobian_pick.specs.Lists.{polynomials, IsUpTo};
 ghost use Rattle.polys.specs.Poly.{terms_of};
@@ -18,8 +20,8 @@ fn push_number_sums(
     g: &Poly,
     into: &mut List<Poly>,
 ) -> Result<(), NoMemory>
-    requires f { IsUpTo prime variables 118 f.now }
-    requires g { IsUpTo prime variables 118 g.now }
+    requires f { IsUpTo prime variables MAX_MINOR_DEGREE f.now }
+    requires g { IsUpTo prime variables MAX_MINOR_DEGREE g.now }
     ensures { OnOk result (into.new ≡ into.old ++ polynomials prime (number_sums prime f.now.terms g.now.terms)) }
 {
     let last = (prime.get() - 1).min(7);
@@ -41,8 +43,8 @@ fn push_all_number_sums(
     others: &[Poly],
     into: &mut List<Poly>,
 ) -> Result<(), NoMemory>
-    requires f { IsUpTo prime variables 118 f.now }
-    requires others { All (IsUpTo prime variables 118) others.now }
+    requires f { IsUpTo prime variables MAX_MINOR_DEGREE f.now }
+    requires others { All (IsUpTo prime variables MAX_MINOR_DEGREE) others.now }
     ensures { OnOk result (into.new ≡ into.old ++ polynomials prime (flat_map (number_sums prime f.now.terms) (terms_of others.now))) }
 {
     for g in others {
@@ -58,7 +60,7 @@ pub fn sums_by_numbers(
     variables: u32,
     members: &[Poly],
 ) -> Result<List<Poly>, NoMemory>
-    requires { All (IsUpTo prime variables 118) members.now }
+    requires { All (IsUpTo prime variables MAX_MINOR_DEGREE) members.now }
     ensures { IfOk result (λ fs. fs ≡ polynomials prime (over_pairs (number_sums prime) (terms_of members.now))) }
 {
     let mut sums = List::new(alloc);
@@ -76,9 +78,9 @@ fn push_variable_sums(
     g: &Poly,
     into: &mut List<Poly>,
 ) -> Result<(), NoMemory>
-    requires variables { variables ≤ 6 }
-    requires f { IsUpTo prime variables 118 f.now }
-    requires g { IsUpTo prime variables 118 g.now }
+    requires variables { variables ≤ MAX_VARIABLES }
+    requires f { IsUpTo prime variables MAX_MINOR_DEGREE f.now }
+    requires g { IsUpTo prime variables MAX_MINOR_DEGREE g.now }
     ensures { OnOk result (into.new ≡ into.old ++ polynomials prime (variable_sums prime variables f.now.terms g.now.terms)) }
 {
     let _prime = prime.get();
@@ -100,9 +102,9 @@ fn push_all_variable_sums(
     others: &[Poly],
     into: &mut List<Poly>,
 ) -> Result<(), NoMemory>
-    requires variables { variables ≤ 6 }
-    requires f { IsUpTo prime variables 118 f.now }
-    requires others { All (IsUpTo prime variables 118) others.now }
+    requires variables { variables ≤ MAX_VARIABLES }
+    requires f { IsUpTo prime variables MAX_MINOR_DEGREE f.now }
+    requires others { All (IsUpTo prime variables MAX_MINOR_DEGREE) others.now }
     ensures { OnOk result (into.new ≡ into.old ++ polynomials prime (flat_map (variable_sums prime variables f.now.terms) (terms_of others.now))) }
 {
     for g in others {
@@ -118,8 +120,8 @@ pub fn sums_by_variables(
     variables: u32,
     members: &[Poly],
 ) -> Result<List<Poly>, NoMemory>
-    requires variables { variables ≤ 6 }
-    requires members { All (IsUpTo prime variables 118) members.now }
+    requires variables { variables ≤ MAX_VARIABLES }
+    requires members { All (IsUpTo prime variables MAX_MINOR_DEGREE) members.now }
     ensures { IfOk result (λ fs. fs ≡ polynomials prime (over_others (variable_sums prime variables) [] (terms_of members.now))) }
 {
     let mut sums = List::new(alloc);

@@ -2,7 +2,7 @@
 ghost use Rattle.std.specs.Prelude.{◌≡◌, ◌≤◌, All, IfOk, IsTrue, length};
 ghost use Rattle.monomials.specs.Mono.{total_degree};
 ghost use Rattle.polys.specs.Terms.{IsAffine};
-ghost use Rattle.problem.specs.Problem.{IsReady};
+ghost use Rattle.problem.specs.Problem.{HasFitPolynomials};
 ghost use Rattle.jacobian_pick.specs.Lists.{IsUpTo};
 
 use crate::choosing::ideal_basis;
@@ -115,7 +115,7 @@ struct Given<'a> {
 }
 
 fn problem(alloc: Global, given: &Given) -> Result<Problem, Fail>
-    ensures { IfOk result IsReady }
+    ensures { IfOk result HasFitPolynomials }
 {
     let prime = Prime::new(given.characteristic).ok_or("in the table")?;
     let letters = Letters::new(given.letters).ok_or("letters")?;

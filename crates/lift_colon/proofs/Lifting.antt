@@ -14,7 +14,7 @@ use Rattle.ideal_laws.proofs.Ideals.{in_head, in_more, in_generator, in_larger, 
 use Rattle.polys.proofs.Units.{canonical_same}
 use Rattle.polys.proofs.Weights.{is_canonical, normal_canon}
 use Rattle.graded_modules.specs.Bases.{IsReduced, IsNormalForm}
-use Rattle.graded_modules.specs.Vector.{IsGradedVector, IsGenerator, HasDegree, degree_at}
+use Rattle.graded_modules.specs.Vector.{IsGradedVector, IsGenerator, IsOfDegree, degree_at}
 use Rattle.homogenising.specs.Homogenised.{homogenised_to, dehomogenised}
 use Rattle.homogenising.specs.Laws.{IsHomogeneousPoly}
 use Rattle.homogenising.proofs.Lifted.{Fits, fits, lifted, degrees_lifted}
@@ -74,7 +74,7 @@ module _ (l : LiftedData) (m : Gens) (h : IsLifted l) (hm : HasModule l m) where
     homogeneous : IsHomogeneousPoly l.prime l.variables (homogenised_to (degree_of g + 1000) g)
     homogeneous = lifted p n h.six_variables (degree_of g + 1000) g hg.canonical fit
 
-    degree : HasDegree (degree_of l.denominator.terms) (degree_of g + 1000) (homogenised_to (degree_of g + 1000) g)
+    degree : IsOfDegree (degree_of l.denominator.terms) (degree_of g + 1000) (homogenised_to (degree_of g + 1000) g)
     degree =
         every_more (λ w. IsPlain w × (degree_at 0 w ≡ degree_of g + 1000)) (λ w. degree_at (degree_of d) w ≡ degree_of g + 1000) v (λ w x. plain_degree (degree_of d) w x.0 ∙ x.1)
         (every_zip IsPlain (λ w. degree_at 0 w ≡ degree_of g + 1000) v homogeneous.plain (degrees_lifted p n h.six_variables (degree_of g + 1000) g fit))
@@ -87,15 +87,15 @@ module _ (l : LiftedData) (m : Gens) (h : IsLifted l) (hm : HasModule l m) where
         subst (IsGenerator m.prime m.variables m.shift) (sym e)
         (subst (λ x. IsGenerator m.prime m.variables x v) (sym hm.shift) (subst (λ x. IsGenerator m.prime x (degree_of d) v) (sym hm.variables) (subst (λ x. IsGenerator x n (degree_of d) v) (sym hm.prime) generator)))
 
-    module _ (f r : List Term) (e : f ≡ homogenised_to (degree_of g + 1000) g) (rv : IsGradedVector m.prime m.variables r) (rd : (e : ℕ) → HasDegree m.shift e f → HasDegree m.shift e r)
+    module _ (f r : List Term) (e : f ≡ homogenised_to (degree_of g + 1000) g) (rv : IsGradedVector m.prime m.variables r) (rd : (e : ℕ) → IsOfDegree m.shift e f → IsOfDegree m.shift e r)
         (nf : IsNormalForm m.prime m.variables (terms_of m.vectors) f r) where
       vector : IsGradedVector l.prime l.variables r
       vector = subst (λ x. IsGradedVector p x r) hm.variables (subst (λ x. IsGradedVector x m.variables r) hm.prime rv)
 
-      degree_r : HasDegree (degree_of l.denominator.terms) (degree_of g + 1000) r
+      degree_r : IsOfDegree (degree_of l.denominator.terms) (degree_of g + 1000) r
       degree_r =
-          subst (λ x. HasDegree x (degree_of g + 1000) r) hm.shift
-          (rd (degree_of g + 1000) (subst (HasDegree m.shift (degree_of g + 1000)) (sym e) (subst (λ x. HasDegree x (degree_of g + 1000) v) (sym hm.shift) degree)))
+          subst (λ x. IsOfDegree x (degree_of g + 1000) r) hm.shift
+          (rd (degree_of g + 1000) (subst (IsOfDegree m.shift (degree_of g + 1000)) (sym e) (subst (λ x. IsOfDegree x (degree_of g + 1000) v) (sym hm.shift) degree)))
 
       reduced : IsReduced l.prime l.variables (degree_of l.denominator.terms) (terms_of m.vectors)
       reduced =

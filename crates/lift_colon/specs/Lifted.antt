@@ -1,6 +1,7 @@
 -- An ideal and a denominator with the reduced bases of the ideal, of its sum with the denominator and of the colon ideal
 -- (Greuel and Pfister, sections on colon ideals and on syzygies).
 use Rattle.std.specs.Prelude.{◌≡◌, ◌≢◌, ◌↔◌, ◌⊎◌, ℕ, ◌+◌, ◌<◌, ◌≤◌, List, [], ◌∷◌, All}
+use Rattle.monomials.specs.declared.mono.TheConstants.{MAX_VARIABLES}
 use Rattle.prime_field.specs.Primes.{IsPrime}
 use Rattle.polys.specs.declared.term.Term.{Term}
 use Rattle.polys.specs.Curve.{IsOver}
@@ -31,7 +32,7 @@ pub record LiftedData : Type 0 where
 pub record IsLifted (l : LiftedData) : Type 0 where
   pub prime : IsPrime l.prime
   pub some_variables : 1 ≤ l.variables
-  pub six_variables : l.variables ≤ 6
+  pub six_variables : l.variables ≤ MAX_VARIABLES
   pub denominator : IsOver l.prime l.variables l.denominator
   pub ideal_over : All (IsOver l.prime l.variables) l.ideal
   pub sum_over : All (IsOver l.prime l.variables) l.sum

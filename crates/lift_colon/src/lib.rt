@@ -4,5 +4,5 @@
 mod lifted;
 mod parts;
 
-pub use lifted::{LARGEST_DIMENSION, Lifted, ideal_basis};
+pub use lifted::{Lifted, ideal_basis};
 pub use standard_monomials::Dimension;

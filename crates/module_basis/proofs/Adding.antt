@@ -8,7 +8,7 @@ use Rattle.prime_field.specs.Primes.{IsPrime}
 use Rattle.polys.specs.declared.term.Term.{Term}
 use Rattle.polys.specs.Poly.{Polynomial, IsVector, terms_of}
 use Rattle.polys.specs.Terms.{EachMono, IsMonic, IsMonicOf}
-use Rattle.graded_modules.specs.Vector.{HasDegree, degree_at, lead_mono}
+use Rattle.graded_modules.specs.Vector.{IsOfDegree, degree_at, lead_mono}
 use Rattle.graded_modules.specs.Module.{InModule, IsLeadMultiple}
 use Rattle.graded_modules.specs.SVector.{IsSettled, s_vector, lead_lcm}
 use Rattle.graded_modules.specs.Laws.{ArePaired}
@@ -56,7 +56,7 @@ module _ (gens : Gens) (e : ℕ) (prime : IsPrime gens.prime) (old new : Growing
       (λ i. member (pushed_lists i) (q i)) ∙ get_or-append_seam (terms_of old.basis.items) b.terms [] [] in
       subst (λ f. degree_at gens.shift (lead_mono f) ≡ e) (sym at) (go b.terms fresh.monic fresh.member.degree)
     where
-      go : (f : List Term) → IsMonic f → HasDegree gens.shift e f → degree_at gens.shift (lead_mono f) ≡ e
+      go : (f : List Term) → IsMonic f → IsOfDegree gens.shift e f → degree_at gens.shift (lead_mono f) ≡ e
       go [] m h = absurd m
       go (t ∷ f) m h = h.0
 
@@ -183,7 +183,7 @@ module _ (gens : Gens) (e : ℕ) (low : e ≤ 1000) (prime : IsPrime gens.prime)
       let f = member (terms_of g.basis.items) q.first in
       let h = member (terms_of g.basis.items) q.second in
       let graded = s_vector_law.vector p n gens.shift f h s_paired in
-      let deg = subst (λ k. HasDegree gens.shift k (s_vector p f h)) (sym pair.degree ∙ degree) (s_vector_law.degree p n gens.shift f h s_paired) in
+      let deg = subst (λ k. IsOfDegree gens.shift k (s_vector p f h)) (sym pair.degree ∙ degree) (s_vector_law.degree p n gens.shift f h s_paired) in
       record {
         vector = program_vector p n gens.shift e (s_vector p f h) graded deg (omega arith);
         graded = graded;
@@ -231,7 +231,7 @@ waits_on gens e old new q c v p l = record {
 pub generator_at : (gens : Gens) (e : ℕ) (v : Polynomial) → e ≤ 1000 → IsHomogeneousOver gens.prime gens.variables gens.shift v → degree_at gens.shift (lead_mono v.terms) ≡ e
     → InModule gens.prime gens.variables (terms_of gens.vectors) v.terms → IsMemberAt gens e v.terms
 generator_at gens e v low h q i =
-    let d = subst (λ k. HasDegree gens.shift k v.terms) q (same_degrees gens.prime gens.variables gens.shift v.terms h.vector) in
+    let d = subst (λ k. IsOfDegree gens.shift k v.terms) q (same_degrees gens.prime gens.variables gens.shift v.terms h.vector) in
     record { vector = program_vector gens.prime gens.variables gens.shift e v.terms h.vector.vector d (omega arith); graded = h.vector.vector; degree = d; member = i }
 
 -- the pair that was gone through waits no longer

@@ -19,7 +19,7 @@ use Rattle.polys.proofs.Each.{every_more, every_zip, every_multiple}
 use Rattle.polys.proofs.Units.{canonical_same}
 use Rattle.polys.proofs.Sums.{add_comm}
 use Rattle.polys.proofs.Products.{times_residue, multiple_by_residue}
-use Rattle.graded_modules.specs.Vector.{IsGraded, IsGradedVector, IsGenerator, HasDegree, degree_at, lead_mono}
+use Rattle.graded_modules.specs.Vector.{IsGraded, IsGradedVector, IsGenerator, IsOfDegree, degree_at, lead_mono}
 use Rattle.graded_modules.specs.Module.{InModule, IsLeadMultiple}
 use Rattle.graded_modules.specs.SVector.{IsSumBelow, IsSettled, lead_lcm, s_vector}
 use Rattle.graded_modules.proofs.Graded.{lead_graded, vector_multiple}
@@ -71,7 +71,7 @@ tight p n shift (t ∷ f) h =
 pub graded_mono : (n shift e : ℕ) (m : Monomial) → IsGraded n m → degree_at shift m ≡ e → e ≤ 60000 → IsMono m
 graded_mono n shift e m g d l = record { seven = g.seven; bounded = omega arith; one_of_two = g.two }
 
-pub program_vector : (p n shift e : ℕ) (f : List Term) → IsGradedVector p n f → HasDegree shift e f → e ≤ 60000 → IsVector p f
+pub program_vector : (p n shift e : ℕ) (f : List Term) → IsGradedVector p n f → IsOfDegree shift e f → e ≤ 60000 → IsVector p f
 program_vector p n shift e f g d l = record {
   canonical = g.canonical;
   monos = every_more (λ m. IsGraded n m × (degree_at shift m ≡ e)) IsMono f (λ m k. graded_mono n shift e m k.0 k.1 l) (every_zip (IsGraded n) (λ m. degree_at shift m ≡ e) f g.graded d);
@@ -191,7 +191,7 @@ module _ (gens : Gens) (e : ℕ) (low : e ≤ 1000) (prime : IsPrime gens.prime)
             let is = m.1.2 in
             let back = unscaled p c t x b.terms prime m.1.1 k.canonical m.0 is in
             let g : IsGradedVector p n b.terms = subst (IsGradedVector p n) (sym is) (vector_multiple p n c (t ∷ x) (positive p prime) l.vector) in
-            let deg : HasDegree gens.shift e b.terms = subst (HasDegree gens.shift e) (sym is) (every_multiple (λ w. degree_at gens.shift w ≡ e) p c (t ∷ x) l.degree) in
+            let deg : IsOfDegree gens.shift e b.terms = subst (IsOfDegree gens.shift e) (sym is) (every_multiple (λ w. degree_at gens.shift w ≡ e) p c (t ∷ x) l.degree) in
             record {
               prime = b_prime;
               member = record {
@@ -207,7 +207,7 @@ module _ (gens : Gens) (e : ℕ) (low : e ≤ 1000) (prime : IsPrime gens.prime)
     pub new_below : IsBelowAll gens e (bs ++ b.terms ∷ []) v
     new_below m q h =
         settled_law.remainder gens.prime gens.variables gens.shift bs m v r b.terms prime at.graded left.vector some (left.low m h)
-        (subst (λ k. HasDegree gens.shift k r) (sym q) left.degree) monic (left.below m q h)
+        (subst (λ k. IsOfDegree gens.shift k r) (sym q) left.degree) monic (left.below m q h)
 
     pub new_in : All (IsGenerator gens.prime gens.variables gens.shift) (bs ++ b.terms ∷ []) → InModule gens.prime gens.variables (bs ++ b.terms ∷ []) v
     new_in all =
@@ -243,7 +243,7 @@ module _ (gens : Gens) (e : ℕ) (prime : IsPrime gens.prime) (bs : List (List T
   lead_degree : degree_at gens.shift (lead_mono b.terms) ≡ e
   lead_degree = go b.terms new.monic new.member.degree
     where
-      go : (f : List Term) → IsMonic f → HasDegree gens.shift e f → degree_at gens.shift (lead_mono f) ≡ e
+      go : (f : List Term) → IsMonic f → IsOfDegree gens.shift e f → degree_at gens.shift (lead_mono f) ≡ e
       go [] m h = absurd m
       go (t ∷ f) m h = h.0
 

@@ -8,7 +8,7 @@ use Rattle.prime_field.specs.Primes.{IsPrime}
 use Rattle.polys.specs.declared.term.Term.{Term}
 use Rattle.polys.specs.Poly.{Polynomial, IsVector, terms_of}
 use Rattle.polys.specs.Terms.{EachMono, IsMonic}
-use Rattle.graded_modules.specs.Vector.{IsGenerator, IsGradedVector, HasDegree, degree_at, lead_mono}
+use Rattle.graded_modules.specs.Vector.{IsGenerator, IsGradedVector, IsOfDegree, degree_at, lead_mono}
 use Rattle.graded_modules.specs.Module.{InModule, IsLeadMultiple}
 use Rattle.graded_modules.specs.SVector.{lead_lcm}
 use Rattle.graded_modules.specs.Deep.{HasHighVector, IsDeep}
@@ -116,7 +116,7 @@ answered gens are prime cap e small g ready last c high low qs h =
 
 pub normal_of : (b : Gens) → IsBasis b → IsPrime b.prime → (v r : List Term) → IsGenerator b.prime b.variables b.shift v → Reduces b.prime (terms_of b.vectors) v r → IsVector b.prime r
     → EachMono (λ m. IsLeadMultiple (terms_of b.vectors) m → ⊥) r
-    → IsNormalForm b.prime b.variables (terms_of b.vectors) v r × IsGradedVector b.prime b.variables r × ((e : ℕ) → HasDegree b.shift e v → HasDegree b.shift e r)
+    → IsNormalForm b.prime b.variables (terms_of b.vectors) v r × IsGradedVector b.prime b.variables r × ((e : ℕ) → IsOfDegree b.shift e v → IsOfDegree b.shift e r)
 normal_of b h prime v r g d known outside =
     let p = b.prime in
     let n = b.variables in
@@ -155,7 +155,7 @@ last_divisors gens e cap g small ready low k d l =
 
 pub normal_at : (s b : Gens) → s ≡ b → IsBasis b → IsPrime b.prime → (v r : List Term) → IsGenerator s.prime s.variables s.shift v → Reduces b.prime (terms_of b.vectors) v r → IsVector b.prime r
     → EachMono (λ m. IsLeadMultiple (terms_of b.vectors) m → ⊥) r
-    → IsNormalForm s.prime s.variables (terms_of s.vectors) v r × IsGradedVector s.prime s.variables r × ((e : ℕ) → HasDegree s.shift e v → HasDegree s.shift e r)
+    → IsNormalForm s.prime s.variables (terms_of s.vectors) v r × IsGradedVector s.prime s.variables r × ((e : ℕ) → IsOfDegree s.shift e v → IsOfDegree s.shift e r)
 normal_at s b e h prime v r g d known outside =
-    subst (λ x. IsNormalForm x.prime x.variables (terms_of x.vectors) v r × IsGradedVector x.prime x.variables r × ((e : ℕ) → HasDegree x.shift e v → HasDegree x.shift e r)) (sym e)
+    subst (λ x. IsNormalForm x.prime x.variables (terms_of x.vectors) v r × IsGradedVector x.prime x.variables r × ((e : ℕ) → IsOfDegree x.shift e v → IsOfDegree x.shift e r)) (sym e)
     (normal_of b h prime v r (subst (λ x. IsGenerator x.prime x.variables x.shift v) e g) d known outside)

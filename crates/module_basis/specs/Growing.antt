@@ -5,7 +5,7 @@ use Rattle.monomials.specs.Mono.{Monomial, cmp_dp}
 use Rattle.polys.specs.declared.term.Term.{Term}
 use Rattle.polys.specs.Terms.{EachMono, IsMonic}
 use Rattle.polys.specs.Poly.{Polynomial, IsVector, terms_of}
-use Rattle.graded_modules.specs.Vector.{IsGradedVector, HasDegree, degree_at, lead_mono}
+use Rattle.graded_modules.specs.Vector.{IsGradedVector, IsOfDegree, degree_at, lead_mono}
 use Rattle.graded_modules.specs.Module.{InModule, IsLeadMultiple}
 use Rattle.graded_modules.specs.SVector.{IsSumBelow, IsSettled, lead_lcm}
 use Rattle.graded_modules.specs.Deep.{HasHighPair}
@@ -87,7 +87,7 @@ pub record Gains (gens : Gens) (e : ℕ) (old new : Growing) : Type 0 where
 pub record IsMemberAt (gens : Gens) (e : ℕ) (v : List Term) : Type 0 where
   pub vector : IsVector gens.prime v
   pub graded : IsGradedVector gens.prime gens.variables v
-  pub degree : HasDegree gens.shift e v
+  pub degree : IsOfDegree gens.shift e v
   pub member : InModule gens.prime gens.variables (terms_of gens.vectors) v
 
 -- a monic one whose lead is no multiple of a lead

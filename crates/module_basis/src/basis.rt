@@ -4,7 +4,7 @@ ghost use Rattle.monomials.specs.Mono.{IsMono};
 ghost use Rattle.polys.specs.Curve.{IsOver};
 ghost use Rattle.polys.specs.Poly.{IsPlain, IsVector, terms_of};
 ghost use Rattle.polys.specs.Terms.{EachMono};
-ghost use Rattle.graded_modules.specs.Vector.{IsGradedVector, IsGenerator, HasDegree, degree_at, lead_mono};
+ghost use Rattle.graded_modules.specs.Vector.{IsGradedVector, IsGenerator, IsOfDegree, degree_at, lead_mono};
 ghost use Rattle.graded_modules.specs.Deep.{HasHighVector, IsDeep};
 ghost use Rattle.graded_modules.specs.Bases.{SpanOneModule, IsReduced, IsNormalForm};
 ghost use Rattle.module_basis.specs.declared.gens.BasisStop.TheVariants.{Deep};
@@ -145,7 +145,7 @@ impl GradedBasis {
         ensures prime { IfOk result (λ r. r.prime ≡ self.now.prime) }
         ensures normal { IfOk result (λ r. IsNormalForm self.now.prime self.now.variables (terms_of self.now.vectors) v.now.terms r.terms) }
         ensures graded { IfOk result (λ r. IsGradedVector self.now.prime self.now.variables r.terms) }
-        ensures degree { IfOk result (λ r. (e : ℕ) → HasDegree self.now.shift e v.now.terms → HasDegree self.now.shift e r.terms) }
+        ensures degree { IfOk result (λ r. (e : ℕ) → IsOfDegree self.now.shift e v.now.terms → IsOfDegree self.now.shift e r.terms) }
     {
         let _prime = self.prime.get();
         let terms = v.clone_poly()?.into_terms();

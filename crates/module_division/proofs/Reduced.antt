@@ -17,7 +17,7 @@ use Rattle.ideal_laws.proofs.Ideals.{in_sub}
 use Rattle.polys.proofs.Affine.{poly_sub}
 use Rattle.polys.proofs.Sums.{add_comm}
 use Rattle.polys.proofs.Units.{canonical_same}
-use Rattle.graded_modules.specs.Vector.{IsGradedVector, IsGenerator, HasDegree, degree_at, lead_mono}
+use Rattle.graded_modules.specs.Vector.{IsGradedVector, IsGenerator, IsOfDegree, degree_at, lead_mono}
 use Rattle.graded_modules.specs.Module.{InModule, IsLeadMultiple}
 use Rattle.graded_modules.specs.Bases.{AreApart}
 use Rattle.graded_modules.proofs.Members as Modules
@@ -117,7 +117,7 @@ module _ (p n shift : ℕ) (prime : IsPrime p) (bs : List (List Term)) (monic : 
   kept_all : (P : List Term → Type 0) → All P bs → All P h.kept
   kept_all P all k d l = kept_at p bs monic seven qs h P all k d l
 
-  left_at : (k : ℕ) → (l : k < length h.kept) → (e : ℕ) × HasDegree shift e ((h.tails k l).lead ∷ (h.tails k l).tail) × IsGradedRemainder p n shift h.kept (h.tails k l).tail (h.tails k l).rest e
+  left_at : (k : ℕ) → (l : k < length h.kept) → (e : ℕ) × IsOfDegree shift e ((h.tails k l).lead ∷ (h.tails k l).tail) × IsGradedRemainder p n shift h.kept (h.tails k l).tail (h.tails k l).rest e
       × IsGradedVector p n ((h.tails k l).lead ∷ (h.tails k l).tail)
   left_at k l =
       let t = h.tails k l in

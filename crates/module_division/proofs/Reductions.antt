@@ -18,7 +18,7 @@ use Rattle.polys.proofs.Units.{canonical_same}
 use Rattle.polys.proofs.Products.{mul_by_none}
 use Rattle.polys.proofs.Affine.{poly_normal, affine_times}
 use Rattle.ideal_laws.proofs.Ideals.{in_none, in_add, in_mul}
-use Rattle.graded_modules.specs.Vector.{IsGraded, IsGradedVector, IsGenerator, HasDegree, degree_at, lead_mono}
+use Rattle.graded_modules.specs.Vector.{IsGraded, IsGradedVector, IsGenerator, IsOfDegree, degree_at, lead_mono}
 use Rattle.graded_modules.specs.Module.{InModule}
 use Rattle.graded_modules.specs.SVector.{Multiple, total, top, IsBelow, IsSumBelow}
 use Rattle.graded_modules.proofs.Graded.{graded_times, degree_times}
@@ -181,13 +181,13 @@ module _ (p n : ℕ) (pos : 0 < p) (gs : List (List Term)) where
 -- what holds of the remainder r of a homogeneous vector v of degree e
 pub record IsGradedRemainder (p n shift : ℕ) (bs : List (List Term)) (v r : List Term) (e : ℕ) : Type 0 where
   pub vector : IsGradedVector p n r
-  pub degree : HasDegree shift e r
+  pub degree : IsOfDegree shift e r
   pub member : (gs : List (List Term)) → All (InModule p n gs) bs → InModule p n gs (sub p v r)
   pub low : (m : Monomial) → EachMono (λ w. cmp_dp w m ≡ Less) v → EachMono (λ w. cmp_dp w m ≡ Less) r
   pub below : (m : Monomial) → degree_at shift m ≡ e → EachMono (λ w. cmp_dp w m ≡ Less) v → IsSumBelow p n shift bs m (sub p v r)
 
 module _ (p n shift : ℕ) (prime : IsPrime p) (bs : List (List Term)) (generators : All (IsGenerator p n shift) bs) (vectors : All (IsVector p) bs) (v r : List Term) (e : ℕ)
-    (graded : IsGradedVector p n v) (degrees : HasDegree shift e v) (d : Reduces p bs v r) (canonical : IsCanonical p r) where
+    (graded : IsGradedVector p n v) (degrees : IsOfDegree shift e v) (d : Reduces p bs v r) (canonical : IsCanonical p r) where
   positive : 0 < p
   positive = let two = prime.0 in omega arith
 

@@ -14,6 +14,9 @@ under_plus (x ∷ a) [] i = omega arith
 under_plus (x ∷ a) (y ∷ c) zero = omega arith
 under_plus (x ∷ a) (y ∷ c) (suc i) = under_plus a c i
 
+pub divides_self : (m : Monomial) → Divides m m
+divides_self m = record { same = refl; none_greater = λ i. omega arith }
+
 -- what is missing from a to b
 missing : List ℕ → List ℕ → List ℕ
 missing [] b = []

@@ -7,6 +7,10 @@ use Rattle.std.specs.Cmp.{nat_cmp_is}
 use Rattle.std.specs.Cmp.{ranked}
 use Rattle.monomials.specs.Mono.{Monomial, total_degree, cmp_last, cmp_dp}
 
+-- a number is level with itself
+pub level : (x : ℕ) → nat_cmp x x ≡ Equal
+level x = sym (nat_cmp_is x x Equal refl)
+
 pub then_right : (r : Ordering) → r ≡ ordering_then r Equal
 then_right Less = refl
 then_right Equal = refl

@@ -9,6 +9,9 @@ use std::marker::Model;
 /// The greatest degree of a monomial.
 pub const MAX_DEGREE: u32 = 60_000;
 
+/// The most variables of a polynomial; the place after them is the homogenising variable's.
+pub const MAX_VARIABLES: u32 = 6;
+
 /// A monomial in six variables and the homogenising variable, times one of two unit vectors.
 ///
 /// Contracts see the list of its seven exponents, the homogenising one last, and its component, 0 or 1.

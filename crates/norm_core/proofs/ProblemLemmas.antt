@@ -11,7 +11,7 @@ use Rattle.polys.specs.Poly.{Polynomial, terms_of}
 use Rattle.polys.specs.Terms.{IsPoly}
 use Rattle.problem.specs.Problem.{IsFit, ProblemData, curve_of, problem_data, IsFitProblem}
 use Rattle.problem.specs.declared.problem.Problem.{Problem}
-use Rattle.norm_text.specs.Plain.{IsPlain, plain_answer}
+use Rattle.norm_text.specs.Plain.{LeavesNothing, plain_answer}
 use Rattle.norm_text.specs.Answer.{answer_text}
 use Rattle.norm_text.proofs.Plain.{plain_answers}
 use Rattle.lift_colon.specs.Lifted.{LiftedData, IsLifted}
@@ -140,7 +140,7 @@ plain-solves problem cap l text fit picked served is =
     n : ℕ
     n = length problem.letters
 
-    is_plain : IsPlain (problem_data problem) l.denominator.terms
+    is_plain : LeavesNothing (problem_data problem) l.denominator.terms
     is_plain = record {
       unnamed = served.unnamed;
       curve = record {

@@ -8,6 +8,7 @@ use Rattle.std.specs.declared.cmp.Ordering.TheVariants.{Less, Equal}
 use Rattle.std.specs.Cmp.{nat_cmp_is}
 use Rattle.std.proofs.lemmas.List.{get_or-map, length-map}
 use Rattle.std.proofs.lemmas.List.Elements.{All-weaker, All-contains_itself}
+use Rattle.monomials.proofs.Last.{level}
 use Rattle.polys.specs.declared.term.Term.{Term}
 use Rattle.polys.specs.Curve.{CurveData}
 use Rattle.curve_model.specs.Laws.{IsRegular, IsFinite, ArePolys, ArePoints}
@@ -23,13 +24,10 @@ use Rattle.norm_text.specs.Answer.{AnswerData}
 use Rattle.norm_text.specs.Answers.{IsAnswer}
 use Rattle.norm_text.specs.Meaning.{ModulesAreIntegral, ModulesAreLocal, PowersAreLeast}
 
-same_number : (n : ℕ) → nat_cmp n n ≡ Equal
-same_number n = sym (nat_cmp_is n n Equal refl)
-
 -- no text comes before itself
 same_text : (xs : List ℕ) → slice_cmp nat_cmp xs xs ≡ Equal
 same_text [] = refl
-same_text (x ∷ xs) = rw (same_number x) (same_text xs)
+same_text (x ∷ xs) = rw (level x) (same_text xs)
 
 module _ (problem : ProblemData) (A : CurveData) (S : List (List (List Term))) (h : IsNamedList problem A S) where
   -- points whose texts rise are distinct

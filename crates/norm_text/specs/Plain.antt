@@ -22,11 +22,11 @@ plain_answer problem d = record {
 }
 
 -- no `at` statement, and a regular denominator modulo which nothing is left
-pub record IsPlain (problem : ProblemData) (d : List Term) : Type 0 where
+pub record LeavesNothing (problem : ProblemData) (d : List Term) : Type 0 where
   pub unnamed : problem.at ≡ []
   pub curve : IsRegular (curve_of problem d)
   pub dimension : HasDimModulo (curve_of problem d) 0
 
 -- then the ring is its own closure
 abbrev pub PlainAnswers : Type 0
-PlainAnswers = (problem : ProblemData) (d : List Term) → IsPlain problem d → IsAnswer problem d (plain_answer problem d)
+PlainAnswers = (problem : ProblemData) (d : List Term) → LeavesNothing problem d → IsAnswer problem d (plain_answer problem d)

@@ -4,6 +4,7 @@ use native.Mathlib.Decide.{ℕ_discrete}
 use Rattle.comm_ring.proofs.Derived.{pow-add, pow_same}
 use Rattle.comm_ring.proofs.Expressions.{c0, c1, ◌+:◌, ◌*:◌, minus, v0, v1, v2, v3, v4, ring_as}
 use Rattle.comm_ring.proofs.Pigeons.{pigeonhole}
+use Rattle.comm_ring.proofs.Searching.{below}
 use Rattle.comm_ring.specs.Pigeonhole.{HasTwice}
 use Rattle.comm_ring.specs.Ring.{CommRing, pow}
 use Rattle.fraction_laws.proofs.Coordinates.{dec_mult, finite}
@@ -11,26 +12,6 @@ use Rattle.fraction_laws.proofs.WrittenOut.{Finite}
 use Rattle.point_laws.proofs.PointForms.{Id, Max}
 use Rattle.fraction_laws.proofs.Scalars.{Scalars, sum_of, Dim}
 use Rattle.fraction_laws.proofs.Settings.{EachN}
-
--- a search below a bound
-below : (b : ℕ) (V : ℕ → Type 0) → ((c : ℕ) → Dec (V c)) → Dec ((c : ℕ) × (c < b) × V c)
-below zero V f = no (λ w. none w.0 w.1)
-  where
-    none : (c : ℕ) → c < 0 → ⊥
-    none c l = omega arith
-below (suc b) V f = go (f b) (below b V f)
-  where
-    last : (c : ℕ) → c < suc b → V c → ¬ (V b) → ¬ ((c : ℕ) × (c < b) × V c) → ⊥
-    last c l v n m = at_b (ℕ_discrete c b)
-      where
-        at_b : Dec (c ≡ b) → ⊥
-        at_b (yes e) = n (subst V e v)
-        at_b (no e) = m (c, omega arith, v)
-
-    go : Dec (V b) → Dec ((c : ℕ) × (c < b) × V c) → Dec ((c : ℕ) × (c < suc b) × V c)
-    go (yes v) r = yes (b, omega arith, v)
-    go (no n) (yes r) = yes (r.0, (let l : r.0 < b = r.1 in omega arith), r.2)
-    go (no n) (no m) = no (λ w. last w.0 w.1 w.2 n m)
 
 -- a search through the lists of n numbers below a bound
 lists : (b n : ℕ) (W : List ℕ → Type 0) → ((cs : List ℕ) → Dec (W cs)) → Dec ((cs : List ℕ) × length cs ≡ n × EachN (λ c. c < b) cs × W cs)

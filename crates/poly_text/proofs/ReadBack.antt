@@ -16,7 +16,7 @@ use Rattle.poly_text.specs.declared.reading.PartialTerm.{PartialTerm}
 use Rattle.problem.specs.Letters.{AreLetters, is_among, place}
 use Rattle.poly_text.specs.PolyText.{power_text, factors, term_text, later_text, poly_text, is_shown_negative, shown_size}
 use Rattle.poly_text.specs.Parts.{star, factor_text, factors_text, is_some, size_part}
-use Rattle.poly_text.specs.PolyReading.{IsLow, IsPolyText, TextsTellPolynomials}
+use Rattle.poly_text.specs.PolyReading.{IsWithinDegree, IsPolyText, TextsTellPolynomials}
 use Rattle.poly_text.specs.Digits.{number_after}
 use Rattle.poly_text.specs.TermReading.{begun, raised_within, settled, with_digit, with_letter, residue_of, finished, is_sign, terms_in, all_terms}
 use Rattle.poly_text.proofs.Reader.{in_byte, in_sign, in_end}
@@ -403,7 +403,7 @@ module _ (p : ℕ) (letters : List ℕ) (named : AreLetters letters) (few : p �
       ∙ ap (λ (c : ℕ). keep c t.mono []) (residue_back p t.coeff small)
       ∙ ap (λ (b : Bool). cond b [] (t ∷ [])) (test_no t.coeff 0 (λ none. omega (arith, none)))
 
-  term_read : (f : List Term) (t : Term) (is_negative : Bool) → IsCanonical p (t ∷ f) → EachMono (IsAffine (length letters)) (t ∷ f) → EachMono IsLow (t ∷ f)
+  term_read : (f : List Term) (t : Term) (is_negative : Bool) → IsCanonical p (t ∷ f) → EachMono (IsAffine (length letters)) (t ∷ f) → EachMono IsWithinDegree (t ∷ f)
       → is_negative ≡ is_shown_negative p t.coeff → ((s : PartialTerm) → terms_in p letters s (later_text p letters f) ≡ finished p s ++ f)
       → terms_in p letters (begun is_negative) (term_text p letters t ++ later_text p letters f) ≡ t ∷ f
   term_read f t is_negative canonical affine low sign more =
@@ -412,7 +412,7 @@ module _ (p : ℕ) (letters : List ℕ) (named : AreLetters letters) (few : p �
       ∙ more r.end
       ∙ ap (λ (g : List Term). g ++ f) (finished_term t r.end canonical.0 canonical.1 (r.sign ∙ sign) r.term)
 
-  later_read : (f : List Term) → IsCanonical p f → EachMono (IsAffine (length letters)) f → EachMono IsLow f
+  later_read : (f : List Term) → IsCanonical p f → EachMono (IsAffine (length letters)) f → EachMono IsWithinDegree f
       → (s : PartialTerm) → terms_in p letters s (later_text p letters f) ≡ finished p s ++ f
   later_read [] canonical affine low s = in_end p letters s ∙ sym (append-nil (finished p s))
   later_read (t ∷ f) canonical affine low s = by_case (is_shown_negative p t.coeff) refl (later_read f canonical.3 affine.1 low.1)
@@ -485,7 +485,7 @@ module _ (p : ℕ) (letters : List ℕ) (named : AreLetters letters) (few : p �
       by_case true false some = size
       by_case false b some = size
 
-  all_read_back : (f : List Term) → IsCanonical p f → EachMono (IsAffine (length letters)) f → EachMono IsLow f → all_terms p letters (poly_text p letters f) ≡ f
+  all_read_back : (f : List Term) → IsCanonical p f → EachMono (IsAffine (length letters)) f → EachMono IsWithinDegree f → all_terms p letters (poly_text p letters f) ≡ f
   unfolding IsPlain
   all_read_back [] canonical affine low =
       in_byte p letters [] (begun false) 48 refl ∙ in_end p letters (with_digit (begun false) 48)

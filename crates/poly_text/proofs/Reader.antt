@@ -11,7 +11,7 @@ use Rattle.polys.proofs.Affine.{affine_unit}
 use Rattle.polys.proofs.Each.{every_more}
 use Rattle.problem.specs.Letters.{AreLetters, is_among}
 use Rattle.poly_text.specs.PolyText.{poly_text}
-use Rattle.poly_text.specs.PolyReading.{IsLow, IsPolyText}
+use Rattle.poly_text.specs.PolyReading.{IsWithinDegree, IsPolyText}
 use Rattle.poly_text.specs.declared.reading.PartialTerm.{PartialTerm}
 use Rattle.poly_text.specs.TermReading.{begun, settled, settled_at, with_digit, with_letter, with_byte, residue_of, finished, is_sign, terms_in, all_terms, IsPartialTerm}
 use Rattle.poly_text.proofs.VariablePowers.{raised_mono, affine_raised}
@@ -158,6 +158,6 @@ read_text p q letters names bytes items is named read known text = record {
     canonical = known.canonical;
     affine = subst (λ (l : List ℕ). EachMono (IsAffine (length l)) items) is (subst (EachMono (IsAffine (length names))) (sym read) (known_all q names bytes named.six).1);
   };
-  low = every_more IsMono IsLow items (λ m h. h.bounded) known.monos;
+  low = every_more IsMono IsWithinDegree items (λ m h. h.bounded) known.monos;
   text = text;
 }

@@ -1,5 +1,6 @@
 // The values of digits, and monomials raised by a variable.
 ghost use Rattle.std.specs.Prelude.{◌≡◌, ◌≤◌, ◌<◌, ◌+◌, ◌-◌};
+ghost use Rattle.monomials.specs.declared.mono.TheConstants.{MAX_DEGREE};
 ghost use Rattle.monomials.specs.Mono.{unit, total_degree, IsMono};
 ghost use Rattle.poly_text.specs.Raising.{raised};
 
@@ -16,7 +17,7 @@ pub fn digit_value(digit: u8) -> u32
 // The power `e` of the variable `v`, by about log e products.
 fn variable_power(v: u32, e: u32) -> Mono
     requires variable { v < 6 }
-    requires room { e ≤ 60000 }
+    requires room { e ≤ MAX_DEGREE }
     ensures value { result ≡ raised unit v e }
     ensures degree { total_degree result.exponents ≡ e }
 {
@@ -34,7 +35,7 @@ fn variable_power(v: u32, e: u32) -> Mono
 /// The monomial with the exponent of the variable `v` raised by `e`.
 pub fn raised(mono: Mono, v: u32, e: u32) -> Mono
     requires variable { v < 6 }
-    requires room { total_degree mono.exponents + e ≤ 60000 }
+    requires room { total_degree mono.exponents + e ≤ MAX_DEGREE }
     requires known { IsMono mono }
     ensures { result ≡ raised mono v e }
 {

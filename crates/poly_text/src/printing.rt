@@ -1,5 +1,6 @@
 // Polynomials printed.
 ghost use Rattle.std.specs.Prelude.{◌≡◌, ℕ, ◌<◌, ◌≤◌, ◌++◌, [], ◌∷◌, ◌==◌, ◌&&◌, if◌then◌else◌, codes, decimal, length, drop};
+ghost use Rattle.problem.specs.declared.limits.TheConstants.{MAX_LETTERS};
 ghost use Rattle.monomials.specs.Mono.{Monomial};
 ghost use Rattle.poly_text.specs.Parts.{star, factor_text, factors_text, is_some, size_part, sign_text, terms_text};
 ghost use Rattle.poly_text.specs.PolyText.{power_text, factors, term_text, later_text, poly_text, shown_size, is_shown_negative};
@@ -81,7 +82,7 @@ fn print_factors(
     is_first: bool,
     out: &mut List<u8>,
 ) -> Result<(), NoMemory>
-    requires few { length letters.now ≤ 6 }
+    requires few { length letters.now ≤ MAX_LETTERS }
     requires seven { length mono.now.exponents ≡ 7 }
     ensures { Prints result out.old out.new (factors_text is_first letters.now mono.now.exponents) }
 {
@@ -98,7 +99,7 @@ fn print_factors(
 
 // Whether a letter has an exponent that is not 0.
 fn has_factor(letters: &[u8], mono: &Mono) -> bool
-    requires few { length letters.now ≤ 6 }
+    requires few { length letters.now ≤ MAX_LETTERS }
     requires seven { length mono.now.exponents ≡ 7 }
     ensures { result ≡ is_some (factors letters.now mono.now.exponents) }
 {
@@ -112,7 +113,7 @@ fn has_factor(letters: &[u8], mono: &Mono) -> bool
 
 // Whether the size of a coefficient is left out: it is 1, and a factor follows.
 fn is_left_out(letters: &[u8], mono: &Mono, size: u32) -> bool
-    requires few { length letters.now ≤ 6 }
+    requires few { length letters.now ≤ MAX_LETTERS }
     requires seven { length mono.now.exponents ≡ 7 }
     ensures { result ≡ (size == 1 && is_some (factors letters.now mono.now.exponents)) }
 {
@@ -142,7 +143,7 @@ fn shown(prime: Prime, coeff: u32) -> (bool, u32)
 // A term without its sign.
 fn print_term(prime: Prime, letters: &[u8], term: &Term, out: &mut List<u8>) -> Result<(), NoMemory>
     requires residue { term.now.coeff < prime }
-    requires few { length letters.now ≤ 6 }
+    requires few { length letters.now ≤ MAX_LETTERS }
     requires seven { length term.now.mono.exponents ≡ 7 }
     ensures { Prints result out.old out.new (term_text prime letters.now term.now) }
 {
@@ -174,7 +175,7 @@ fn print_signed(
     out: &mut List<u8>,
 ) -> Result<(), NoMemory>
     requires residue { term.now.coeff < prime }
-    requires few { length letters.now ≤ 6 }
+    requires few { length letters.now ≤ MAX_LETTERS }
     requires seven { length term.now.mono.exponents ≡ 7 }
     ensures { Prints result out.old out.new (sign_text is_first (is_shown_negative prime term.now.coeff) ++ term_text prime letters.now term.now) }
 {

@@ -1,5 +1,7 @@
 // Polynomials read back from their texts.
 ghost use Rattle.std.specs.Prelude.{◌≡◌, ◌+◌, ◌≤◌, ◌<◌, ◌⊎◌, ◌↔◌, ◌++◌, ◌∷◌, List, length, ℕ, Ok, Err, IfOk, IfSome, IsTrue};
+ghost use Rattle.monomials.specs.declared.mono.TheConstants.{MAX_DEGREE};
+ghost use Rattle.problem.specs.declared.limits.TheConstants.{MAX_LETTERS};
 ghost use Rattle.monomials.specs.Mono.{IsMono};
 ghost use Rattle.polys.specs.declared.term.Term.{Term};
 ghost use Rattle.polys.specs.Terms.{IsCanonical, Under};
@@ -96,7 +98,7 @@ impl PartialTerm {
     }
 
     fn with_digit(self, digit: u8) -> PartialTerm
-        requires number { IfSome self.number (λ k. k ≤ 60000) }
+        requires number { IfSome self.number (λ k. k ≤ MAX_DEGREE) }
         ensures { result ≡ with_digit self digit }
     {
         let number = self.number.unwrap_or(0) * 10 + digit_value(digit);
@@ -110,7 +112,7 @@ impl PartialTerm {
     }
 
     fn with_letter(self, letters: &[u8], letter: u8) -> PartialTerm
-        requires few { length letters.now ≤ 6 }
+        requires few { length letters.now ≤ MAX_LETTERS }
         requires known { IsPartialTerm (length letters.now) self }
         ensures { result ≡ with_letter letters.now self letter }
     {
@@ -126,7 +128,7 @@ impl PartialTerm {
 
     // What is read with a byte more that is no sign.
     fn with_byte(self, letters: &[u8], byte: u8) -> PartialTerm
-        requires few { length letters.now ≤ 6 }
+        requires few { length letters.now ≤ MAX_LETTERS }
         requires known { IsPartialTerm (length letters.now) self }
         ensures value { result ≡ with_byte letters.now self byte }
         ensures known { IsPartialTerm (length letters.now) result }
@@ -181,7 +183,7 @@ fn step(
     byte: u8,
     terms: &mut Vec<Term>,
 ) -> Result<PartialTerm, NoMemory>
-    requires few { length letters.now ≤ 6 }
+    requires few { length letters.now ≤ MAX_LETTERS }
     requires known { IsPartialTerm (length letters.now) partial }
     ensures known { IfOk result (λ s. IsPartialTerm (length letters.now) s) }
     ensures terms { IfOk result (λ s. (rest : List ℕ) → terms.new.items ++ terms_in p letters.now s rest ≡ terms.old.items ++ terms_in p letters.now partial (byte ∷ rest)) }
@@ -201,7 +203,7 @@ fn terms_behind(
     is_negative: bool,
     bytes: &[u8],
 ) -> Result<Vec<Term>, NoMemory>
-    requires few { length letters.now ≤ 6 }
+    requires few { length letters.now ≤ MAX_LETTERS }
     ensures { IfOk result (λ terms. terms.items ≡ terms_in p letters.now (begun is_negative) bytes.now) }
 {
     let mut terms = Vec::new(alloc);
@@ -215,7 +217,7 @@ fn terms_behind(
 
 // The terms of the bytes.
 fn all_terms(alloc: Global, p: u32, letters: &[u8], bytes: &[u8]) -> Result<Vec<Term>, NoMemory>
-    requires few { length letters.now ≤ 6 }
+    requires few { length letters.now ≤ MAX_LETTERS }
     ensures { IfOk result (λ terms. terms.items ≡ all_terms p letters.now bytes.now) }
 {
     match bytes {

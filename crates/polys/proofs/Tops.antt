@@ -10,7 +10,7 @@ use Rattle.polys.specs.declared.term.Term.{Term}
 use Rattle.polys.specs.Terms.{EachMono, Under, IsCanonical, normal, add, mul, products, scale, degree_of, power}
 use Rattle.polys.specs.Frobenius.{raised, frobenius}
 use Rattle.polys.specs.Top.{Above, weight, Vanishes, Agrees, greater_by, higher, cut_times, cut_raised, cut_degree, IsCut}
-use Rattle.polys.proofs.Weights.{weigh, tie, same, Canon, canon, canon_ext, head_missing, at_head, mod_cancel, mod_plus, weigh-normal, weigh-append}
+use Rattle.polys.proofs.Weights.{weigh, tie, same, Canon, canon, canon_ext, head_missing, at_head, mod_cancel, mod_plus, weigh-normal, weigh-append, mod_times}
 use Rattle.polys.proofs.Sums.{weigh-products}
 use Rattle.polys.proofs.Leads.{Seven, every_low}
 use Rattle.polys.proofs.Each.{every_more, every_drop}
@@ -25,9 +25,6 @@ pub weight_is : (χ : Monomial → ℕ) (f : List Term) → weight χ f ≡ weig
 unfolding weigh
 weight_is χ [] = refl
 weight_is χ (t ∷ f) = ap (λ (n : ℕ). t.coeff * χ t.mono + n) (weight_is χ f)
-
-mul_same : (p k x y : ℕ) → x % p ≡ y % p → (k * x) % p ≡ (k * y) % p
-mul_same p k x y e = mul-mod k x p ∙ ap (λ (n : ℕ). ((k % p) * n) % p) e ∙ sym (mul-mod k y p)
 
 -- ---- the higher cut
 
@@ -125,7 +122,7 @@ agrees_term p c l g t s cs a χ v =
     vanishing w sw n = v (times w t.mono) (seven_times w t.mono sw s) (λ h. n (above_times c t.mono w sw cs h))
 
     scaled_same : (x y : ℕ) → x % p ≡ y % p → (t.coeff * x) % p ≡ (t.coeff * y) % p
-    scaled_same x y e = mul_same p t.coeff x y e
+    scaled_same x y e = mod_times p t.coeff x y e
 
 -- ---- the top of a polynomial is a prefix of its terms
 

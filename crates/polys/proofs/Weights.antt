@@ -4,13 +4,16 @@ use Rattle.std.proofs.lemmas.Bool.{eqb-false}
 use Rattle.std.specs.declared.cmp.Ordering.{Ordering}
 use Rattle.std.specs.declared.cmp.Ordering.TheVariants.{Less, Equal, Greater}
 use native.Mathlib.Nat.{add-mod, mod-mod, mul-add-mod_self_left, mod-zero, zero-mod, mod-eq_of_lt, mod-lt}
-use Rattle.std.proofs.lemmas.Nat.{mul-mod_first}
+use Rattle.std.proofs.lemmas.Nat.{mul-mod, mul-mod_first}
 use Rattle.monomials.specs.Mono.{Monomial, cmp_dp}
 use Rattle.monomials.proofs.Order.{same_dp, self_dp, turn_down, turn_up, chain_up}
 use Rattle.polys.specs.declared.term.Term.{Term}
 use Rattle.polys.specs.Terms.{keep, put_by, put, normal, Under, IsCanonical}
 
 -- ---- arithmetic modulo p
+
+pub mod_times : (p c a b : ℕ) → a % p ≡ b % p → (c * a) % p ≡ (c * b) % p
+mod_times p c a b h = mul-mod c a p ∙ (λ i. ((c % p) * h i) % p) ∙ sym (mul-mod c b p)
 
 pub mod_plus : (p a b c d : ℕ) → a % p ≡ b % p → c % p ≡ d % p → (a + c) % p ≡ (b + d) % p
 mod_plus p a b c d h k = add-mod a c p ∙ (λ i. (h i + k i) % p) ∙ sym (add-mod b d p)

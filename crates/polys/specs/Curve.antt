@@ -1,5 +1,7 @@
 -- A curve: an ideal and a denominator.
 use Rattle.std.specs.Prelude.{◌≡◌, ℕ, ◌≤◌, List, ◌∷◌, map, All}
+use Rattle.polys.specs.declared.curve.TheConstants.{LARGEST_DIMENSION, MAX_DENOMINATOR_DEGREE}
+use Rattle.monomials.specs.declared.mono.TheConstants.{MAX_VARIABLES}
 use Rattle.polys.specs.declared.term.Term.{Term}
 use Rattle.polys.specs.declared.curve.Curve.{Curve}
 use Rattle.polys.specs.Poly.{Polynomial}
@@ -35,11 +37,11 @@ HasRegular A = Regular A.prime A.variables A.ideal A.denominator
 -- the dimension is at most 256
 pub record Fit (c : Curve) : Type 0 where
   pub some_variables : 1 ≤ c.variables
-  pub six_variables : c.variables ≤ 6
+  pub six_variables : c.variables ≤ MAX_VARIABLES
   pub ideal : All (IsOver c.prime c.variables) c.ideal
   pub denominator : IsOver c.prime c.variables c.denominator
   pub reduced : Reduced c.prime c.variables (data_of c).ideal
   pub proper : InIdeal c.prime c.variables (data_of c).ideal one → ⊥
   pub regular : HasRegular (data_of c)
-  pub low : degree_of c.denominator.terms ≤ 119
-  pub finite : (N : ℕ) × (N ≤ 256) × HasDimModulo (data_of c) N
+  pub low : degree_of c.denominator.terms ≤ MAX_DENOMINATOR_DEGREE
+  pub finite : (N : ℕ) × (N ≤ LARGEST_DIMENSION) × HasDimModulo (data_of c) N

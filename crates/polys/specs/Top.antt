@@ -75,7 +75,7 @@ cut_raised k None = None
 cut_raised k (Some m) = Some (raised k m)
 
 -- the answer is right about the polynomial g and the limit
-abbrev pub IsTold : ℕ → List Term → ℕ → Told → Type 0
-IsTold p g limit (Whole terms) = (terms.items ≡ g) × IsVector p terms.items × (length terms.items ≤ limit)
-IsTold p g limit More = limit < length g
-IsTold p g limit Open = Unit {0}
+abbrev pub IsRightAbout : ℕ → List Term → ℕ → Told → Type 0
+IsRightAbout p g limit (Whole terms) = (terms.items ≡ g) × IsVector p terms.items × (length terms.items ≤ limit)
+IsRightAbout p g limit More = limit < length g
+IsRightAbout p g limit Open = Unit {0}

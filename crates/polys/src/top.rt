@@ -6,7 +6,7 @@ ghost use Rattle.polys.specs.declared.term.Term.{Term};
 ghost use Rattle.polys.specs.Terms.{one, mul, power, degree_of, EachMono, add};
 ghost use Rattle.polys.specs.Frobenius.{raised, frobenius};
 ghost use Rattle.polys.specs.Poly.{IsVector, IsPlain};
-ghost use Rattle.polys.specs.Top.{Above, Agrees, higher, cut_times, cut_raised, cut_degree, IsCut, IsTop, IsTold, reach, KeepsTop};
+ghost use Rattle.polys.specs.Top.{Above, Agrees, higher, cut_times, cut_raised, cut_degree, IsCut, IsTop, IsRightAbout, reach, KeepsTop};
 
 use crate::Term;
 use crate::terms::{one, power as whole_power, sum, term_multiple};
@@ -312,7 +312,7 @@ fn by_tops(alloc: Global, p: Prime, a: &[Term], n: u32, limit: usize) -> Result<
     requires terms { IsVector p a.now }
     requires plain { EachMono IsPlain a.now }
     requires room { degree_of a.now * n ≤ MAX_DEGREE }
-    ensures { IfOk result (λ told. IsTold p (power p a.now n) limit told) }
+    ensures { IfOk result (λ told. IsRightAbout p (power p a.now n) limit told) }
 {
     let _modulus = p.get();
     let mut keep = limit.saturating_add(SPARE);

@@ -16,7 +16,8 @@ letter_is x (inr h) = grind (arith, nat_tests)
 pub all_alphabetic : (letters : List ℕ) → All IsLetter letters → list_all is_ascii_alphabetic letters ≡ true
 all_alphabetic letters each = list_all-from_AllPass is_ascii_alphabetic letters (λ k d within. letter_is _ (each k d within))
 
-same_number : (x y : ℕ) → (x == y) ≡ true → x ≡ y
+-- numbers that the test finds equal are equal
+pub same_number : (x y : ℕ) → (x == y) ≡ true → x ≡ y
 same_number x y is = grind (arith, nat_tests)
 
 among_alphabetic : (letters : List ℕ) (x : ℕ) → list_all is_ascii_alphabetic letters ≡ true → is_among letters x ≡ true → is_ascii_alphabetic x ≡ true

@@ -1,7 +1,7 @@
 -- The letters of the variables.
 use Rattle.std.specs.Prelude.{ℕ, ◌≢◌, ◌≤◌, ◌⊎◌, ◌==◌, if◌then◌else◌, Bool, suc, List, [], ◌∷◌, length, All, AllPairs}
 use Rattle.std.specs.List.{list_any}
-use Rattle.problem.specs.declared.limits.TheConstants.{MAX_VARIABLES}
+use Rattle.problem.specs.declared.limits.TheConstants.{MAX_LETTERS}
 
 -- an ASCII letter, small or capital
 abbrev pub IsLetter : ℕ → Type 0
@@ -10,7 +10,7 @@ IsLetter x = ((65 ≤ x) × (x ≤ 90)) ⊎ ((97 ≤ x) × (x ≤ 122))
 -- 1 to 6 distinct ASCII letters; the first stands for the greatest variable
 pub record AreLetters (letters : List ℕ) : Type 0 where
   pub some : 1 ≤ length letters
-  pub six : length letters ≤ MAX_VARIABLES
+  pub six : length letters ≤ MAX_LETTERS
   pub each : All IsLetter letters
   pub distinct : AllPairs (λ x y. x ≢ y) letters
 

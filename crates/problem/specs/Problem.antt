@@ -6,7 +6,7 @@ use Rattle.polys.specs.Poly.{Polynomial, terms_of}
 use Rattle.polys.specs.Curve.{CurveData}
 use Rattle.polys.specs.Terms.{IsPoly, degree_of}
 use Rattle.problem.specs.Letters.{AreLetters}
-use Rattle.problem.specs.declared.limits.TheConstants.{MAX_DEGREE, MAX_GENERATORS}
+use Rattle.problem.specs.declared.limits.TheConstants.{MAX_VALUE_DEGREE, MAX_GENERATORS}
 use Rattle.problem.specs.declared.problem.Problem.{Problem}
 
 -- the characteristic, the letters of the variables, the generators of I, the denominator that is handed in, and the
@@ -48,10 +48,10 @@ problem_data problem = record {
 pub record IsFit (p n : ℕ) (f : Polynomial) : Type 0 where
   pub prime : f.prime ≡ p
   pub poly : IsPoly p n f.terms
-  pub degree : degree_of f.terms ≤ MAX_DEGREE
+  pub degree : degree_of f.terms ≤ MAX_VALUE_DEGREE
 
 -- the generators and the denominator are over the prime and in the letters' variables, and have degree at most 60
-pub record IsReady (problem : Problem) : Type 0 where
+pub record HasFitPolynomials (problem : Problem) : Type 0 where
   pub generators : All (IsFit problem.prime (length problem.letters)) problem.generators
   pub denominator : IfSome problem.denominator (IsFit problem.prime (length problem.letters))
 
@@ -59,5 +59,5 @@ pub record IsReady (problem : Problem) : Type 0 where
 pub record IsFitProblem (problem : Problem) : Type 0 where
   pub some : 1 ≤ length problem.generators
   pub few : length problem.generators ≤ MAX_GENERATORS
-  pub ready : IsReady problem
+  pub ready : HasFitPolynomials problem
   pub at : All (All (IsFit problem.prime (length problem.letters))) problem.at

@@ -1,29 +1,29 @@
 // The letters of the variables.
 ghost use Rattle.std.specs.Prelude.{◌≡◌, ◌≢◌, ℕ, ◌<◌, ◌≤◌, ◌↔◌, ◌⊎◌, length, All, IsTrue, MatchOption, slice_index};
 ghost use Rattle.problem.specs.Letters.{AreLetters, IsLetter, is_among, place};
-ghost use Rattle.problem.specs.declared.limits.TheConstants.{MAX_VARIABLES};
+ghost use Rattle.problem.specs.declared.limits.TheConstants.{MAX_LETTERS};
 
-use crate::limits::MAX_VARIABLES;
+use crate::limits::MAX_LETTERS;
 use std::marker::Model;
 
 /// 1 to 6 distinct ASCII letters, the names of the variables from the greatest on. Contracts see the list of
 /// their bytes.
 #[derive(Debug, Drop)]
 pub struct Letters {
-    bytes: [u8; MAX_VARIABLES],
+    bytes: [u8; MAX_LETTERS],
     count: usize,
 }
 
 impl Model for Letters {
     ghost use Rattle.std.specs.Prelude.{ℕ, List, take, ◌≤◌};
     ghost use Rattle.problem.specs.Letters.{AreLetters};
-    ghost use Rattle.problem.specs.declared.limits.TheConstants.{MAX_VARIABLES};
+    ghost use Rattle.problem.specs.declared.limits.TheConstants.{MAX_LETTERS};
 
     ghost Value = { List ℕ };
 
     ghost view = { λ l. take l.count l.bytes };
 
-    ghost invariant = { λ l. (l.count ≤ MAX_VARIABLES) × AreLetters (take l.count l.bytes) };
+    ghost invariant = { λ l. (l.count ≤ MAX_LETTERS) × AreLetters (take l.count l.bytes) };
 }
 
 impl Letters {
@@ -32,10 +32,10 @@ impl Letters {
         ensures { MatchOption result (AreLetters letters.now → ⊥) (λ l. (l ≡ letters.now) × AreLetters letters.now) }
     {
         let count = letters.len();
-        if count == 0 || count > MAX_VARIABLES || !are_distinct_letters(letters) {
+        if count == 0 || count > MAX_LETTERS || !are_distinct_letters(letters) {
             return None;
         }
-        let mut bytes = [0; MAX_VARIABLES];
+        let mut bytes = [0; MAX_LETTERS];
         bytes[..count].copy_from_slice(letters);
         Some(Letters { bytes, count })
     }

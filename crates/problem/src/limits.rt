@@ -1,7 +1,7 @@
 // The limits of a problem and of its text.
 
-/// The most variables.
-pub const MAX_VARIABLES: usize = 6;
+/// The most letters of a ring.
+pub const MAX_LETTERS: usize = 6;
 
 /// The most generators of an ideal.
 pub const MAX_GENERATORS: usize = 12;
@@ -22,7 +22,7 @@ pub const MAX_DIGITS: usize = 18;
 pub const MAX_TERMS: usize = 2000;
 
 /// The greatest degree of a value.
-pub const MAX_DEGREE: u32 = 60;
+pub const MAX_VALUE_DEGREE: u32 = 60;
 
 /// A number above all characteristics, as which the greater numbers are read too.
 pub const NO_CHARACTERISTIC: u32 = 40000;

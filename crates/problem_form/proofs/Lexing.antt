@@ -1,10 +1,8 @@
 -- The tokens of a text, byte by byte.
 use Rattle.std.proofs.Common.{◌≡◌, ℕ, ◌==◌, ◌&&◌, ◌||◌, not, List, [], ◌∷◌, Bool, true, false, cond, length, ◌≢◌, ◌<◌, suc, take, subst, refl, sym, ap, ◌∙◌, arith}
 use Rattle.std.proofs.lemmas.Bool.Decides.{nat_tests}
+use Rattle.problem.proofs.Places.{same_number}
 use Rattle.problem_form.specs.Tokens.{tokens, tokens_from, is_blank, is_word_byte, begins, extend, StartsToken, front_word, behind_word}
-
-pub same_number : (a b : ℕ) → (a == b) ≡ true → a ≡ b
-same_number a b test = grind (arith, nat_tests)
 
 -- a blank is no byte of a word
 no_word : (b n : ℕ) → (b == n) ≡ true → is_word_byte n ≡ false → is_word_byte b ≡ false

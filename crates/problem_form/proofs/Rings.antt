@@ -3,10 +3,10 @@ use Rattle.std.proofs.Common.{◌≡◌, ℕ, List, [], ◌∷◌, ◌++◌, Boo
 use Rattle.std.specs.Prelude.{codes, option_and_then, unwrap_or}
 use Rattle.std.specs.List.{list_all}
 use Rattle.std.specs.Char.{is_ascii_alphabetic}
+use Rattle.problem.proofs.Places.{same_number}
 use Rattle.problem_form.specs.Words.{same_token, is_name, is_number}
 use Rattle.problem_form.specs.ProblemText.{closed_letters, letters_spelling}
 use Rattle.problem_form.specs.Reading.{after_token, after_name, number_at, begun_at, letter_of, listed_at, single_at, letters_by, letters_at, ring_start, ring_end, ring_at}
-use Rattle.problem_form.proofs.Lexing.{same_number}
 
 -- equal tokens are the same
 pub same_is : (a b : List ℕ) → same_token a b ≡ true → a ≡ b

@@ -1,11 +1,11 @@
 -- What a token is, by its class.
 use Rattle.std.proofs.Common.{◌≡◌, ℕ, List, [], ◌∷◌, Bool, true, false, cond, ◌==◌, refl, ap}
 use Rattle.std.specs.Prelude.{codes}
+use Rattle.problem.proofs.Places.{same_number}
 use Rattle.problem.specs.Letters.{is_among}
 use Rattle.problem_form.specs.Words.{is_number, is_run, class_of_byte, class_of_mark, class_of}
 use Rattle.problem_form.specs.declared.words.Class.{Class}
 use Rattle.problem_form.specs.declared.words.Class.TheVariants.{Open, Close, Caret, Star, Plus, Minus, Comma, Semicolon, Number, Variable, Run, Other}
-use Rattle.problem_form.proofs.Lexing.{same_number}
 
 -- the token is of this class
 abbrev pub IsOf : List ℕ → Class → List ℕ → Type 0

@@ -8,7 +8,7 @@ use Rattle.std.proofs.lemmas.List.Folds.{sum_by-replicate}
 use Rattle.std.proofs.lemmas.List.Sums.{sum_by_push, sum_by-set, count_by-le-length}
 use Rattle.race_core.specs.State.{State, initial, HasSizes, IsShaped, IsSeat, IsStratum, tickets, word, drawn_list, won_list, is_told_spent, times, times_joined, one_if}
 use Rattle.race_core.specs.Moves.{Allows, next, added, drew, told_spent}
-use Rattle.race_core.specs.Sound.{Sound, IsCore, is_word, drawn_total}
+use Rattle.race_core.specs.Sound.{Sound, IsRaceState, is_word, drawn_total}
 use Rattle.race_core.specs.declared.event.Event.{Event}
 use Rattle.race_core.specs.declared.event.Event.TheVariants.{Draw, LookOpen, LookTaken, Win, Lose, Join}
 use Rattle.race_core.proofs.Counting.{times-push, total-times, below-same, below-few}
@@ -220,7 +220,7 @@ next-shaped c (Win s i) shaped = record {
 next-shaped c (Lose s i by) shaped = shaped
 next-shaped c (Join s i) shaped = record { words = shaped.words; drawn = shaped.drawn; won = shaped.won; spent = shaped.spent }
 
-pub initial-core : (strata seats : ℕ) → strata ≤ 256 → 1 ≤ seats → seats ≤ 17 → IsCore (initial strata seats)
+pub initial-core : (strata seats : ℕ) → strata ≤ 256 → 1 ≤ seats → seats ≤ 17 → IsRaceState (initial strata seats)
 initial-core strata seats few some few_seats = record {
   few_strata = few;
   some_seat = some;
@@ -229,7 +229,7 @@ initial-core strata seats few some few_seats = record {
   sound = initial-sound strata seats;
 }
 
-pub next-core : (c : State) (e : Event) → IsCore c → Allows c e → IsCore (next c e)
+pub next-core : (c : State) (e : Event) → IsRaceState c → Allows c e → IsRaceState (next c e)
 next-core c e core allowed = let sizes = next-sizes c e in record {
   few_strata = rw sizes.strata core.few_strata;
   some_seat = rw sizes.seats core.some_seat;
@@ -251,5 +251,5 @@ drawn-total c sound =
 pub count-bound : (c : State) → IsShaped c → Sound c → c.count ≤ tickets c + c.seats
 count-bound c shaped sound = omega (arith, drawn-total c sound, sound.count.total, count_by-le-length (λ told. told) c.spent, shaped.spent)
 
-pub core-room : (c : State) → IsCore c → c.count < 2 ^ 32
+pub core-room : (c : State) → IsRaceState c → c.count < 2 ^ 32
 core-room c core = omega (arith, count-bound c core.shaped core.sound, core.few_strata, core.few_seats)

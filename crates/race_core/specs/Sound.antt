@@ -1,5 +1,6 @@
 -- What holds of every state that allowed events reach.
 use Rattle.std.specs.Prelude.{ℕ, ◌≡◌, ◌+◌, ◌<◌, ◌≤◌, ◌==◌, ◌&&◌, nat_le, nat_lt, min, Bool, IsTrue, length, All, sum_by, count_by}
+use Rattle.race_core.specs.declared.machine.TheConstants.{MAX_SEATS, MAX_STRATA}
 use Rattle.race_core.specs.State.{State, IsSeat, IsStratum, IsShaped, tickets, word, won_list, is_told_spent, times, times_joined, one_if}
 
 -- each word is 0 or a seat's number
@@ -45,9 +46,9 @@ pub record Sound (c : State) : Type 0 where
   pub joined : JoinsWereWon c
 
 -- what a core keeps: its limits, its shape and the five facts
-pub record IsCore (c : State) : Type 0 where
-  pub few_strata : c.strata ≤ 256
+pub record IsRaceState (c : State) : Type 0 where
+  pub few_strata : c.strata ≤ MAX_STRATA
   pub some_seat : 1 ≤ c.seats
-  pub few_seats : c.seats ≤ 17
+  pub few_seats : c.seats ≤ MAX_SEATS
   pub shaped : IsShaped c
   pub sound : Sound c

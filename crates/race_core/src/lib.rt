@@ -16,7 +16,7 @@ pub use laws::{
     joined_strata_were_won, no_stratum_is_joined_twice, reached_states_are_sound,
     sound_states_account, soundness_is_kept, start_is_sound, tickets_name_strata,
 };
-pub use machine::{Core, replay, start, step};
+pub use machine::{Core, MAX_SEATS, MAX_STRATA, replay, start, step};
 
 #[cfg(test)]
 mod tests;

@@ -1,5 +1,6 @@
 // The core of the race.
 ghost use Rattle.std.specs.Prelude.{◌≡◌, ℕ, ◌+◌, ◌-◌, ◌*◌, ◌≤◌, ◌↔◌, IsTrue, IfOk, IfSome};
+ghost use Rattle.race_core.specs.declared.machine.TheConstants.{MAX_SEATS, MAX_STRATA};
 ghost use Rattle.race_core.specs.State.{initial, HasSizes, IsSeat, IsStratum, tickets, word, drawn_list, won_list, is_told_spent};
 ghost use Rattle.race_core.specs.Sound.{Sound};
 ghost use Rattle.race_core.specs.Runs.{IsStep, IsReplay};
@@ -9,6 +10,12 @@ use crate::parts::Parts;
 use lists::NoMemory;
 use std::alloc::Global;
 use std::marker::Model;
+
+/// The most strata of a race.
+pub const MAX_STRATA: u32 = 256;
+
+/// The most seats of a race: the caller's and those of sixteen workers.
+pub const MAX_SEATS: u32 = 17;
 
 /// The state of a race: the numbers of strata and seats, a count of draws, a word for each stratum,
 /// for each seat what it drew and won and whether it was told that the tickets are spent, and the
@@ -24,18 +31,18 @@ impl Model for Core {
     ghost Value = { State };
 
     ghost use Rattle.race_core.specs.Parts.{state_of};
-    ghost use Rattle.race_core.specs.Sound.{IsCore};
+    ghost use Rattle.race_core.specs.Sound.{IsRaceState};
 
     ghost view = { λ core. state_of core.parts };
 
-    ghost invariant = { λ core. IsCore (state_of core.parts) };
+    ghost invariant = { λ core. IsRaceState (state_of core.parts) };
 }
 
 /// The state before the first event: the count is 0, all words are 0 and all lists are empty. There
 /// are at most 256 strata and 1 to 17 seats. `NoMemory` comes where no memory is to be had.
 pub fn start(alloc: Global, strata: u32, seats: u32) -> Result<Core, NoMemory>
-    requires strata { strata ≤ 256 }
-    requires seats { (1 ≤ seats) × (seats ≤ 17) }
+    requires strata { strata ≤ MAX_STRATA }
+    requires seats { (1 ≤ seats) × (seats ≤ MAX_SEATS) }
     ensures { IfOk result (λ core. core ≡ initial strata seats) }
 {
     let parts = Parts::new(alloc, strata, seats)?;
@@ -65,8 +72,8 @@ pub fn replay(
     seats: u32,
     events: &[Event],
 ) -> Result<Option<Core>, NoMemory>
-    requires strata { strata ≤ 256 }
-    requires seats { (1 ≤ seats) × (seats ≤ 17) }
+    requires strata { strata ≤ MAX_STRATA }
+    requires seats { (1 ≤ seats) × (seats ≤ MAX_SEATS) }
     ensures replay { IfOk result (λ answer. IsReplay (initial strata seats) events.now answer) }
     ensures sizes { IfOk result (λ answer. IfSome answer (HasSizes strata seats)) }
 {

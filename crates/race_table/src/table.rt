@@ -1,5 +1,6 @@
 // The table of the words.
 ghost use Rattle.std.specs.Prelude.{◌≡◌, ℕ, ◌+◌, ◌*◌, ◌<◌, ◌≤◌, [], false, length, IfOk};
+ghost use Rattle.race_core.specs.declared.machine.TheConstants.{MAX_SEATS, MAX_STRATA};
 ghost use Rattle.race_table.specs.Rule.{Held};
 ghost use Rattle.race_table.specs.Views.{view, drew, looked, tried, was_told, HasAll};
 ghost use Rattle.race_table.specs.Answers.{IsFresh, IsTicket, IsLook, IsWin, IsClosed, Tells};
@@ -44,7 +45,7 @@ pub struct RaceTable {
     pub(crate) table: Table<(), View, Sizes, Fair, Global>,
     strata: u32,
     ghost sizes: { (strata ≡ table.shared.key.strata) × (table.shared.table_id.words ≡ strata + 1) × (table.shared.table_id.slots ≡ 0) },
-    ghost few: { (strata ≤ 256) × (table.shared.key.seats ≤ 17) },
+    ghost few: { (strata ≤ MAX_STRATA) × (table.shared.key.seats ≤ MAX_SEATS) },
 }
 
 impl RaceTable {
@@ -53,8 +54,8 @@ impl RaceTable {
     /// A table for at most 256 strata and 1 to 17 seats, whose words are 0, and the pass of all
     /// seats. `NoMemory` comes where no memory is to be had.
     pub fn new(alloc: Global, strata: u32, seats: u32) -> Result<(RaceTable, Pass), NoMemory>
-        requires strata { strata ≤ 256 }
-        requires seats { (1 ≤ seats) × (seats ≤ 17) }
+        requires strata { strata ≤ MAX_STRATA }
+        requires seats { (1 ≤ seats) × (seats ≤ MAX_SEATS) }
         ensures table { IfOk result (λ r. BelongsTo r.0 r.1) }
         ensures pass { IfOk result (λ r. view_of r.1 ≡ view strata seats 1 seats [] [] [] []) }
     {
@@ -82,7 +83,7 @@ impl RaceTable {
     /// The number of strata, at most 256.
     pub fn strata(&self) -> u32
         ensures strata { result ≡ strata_of self.now }
-        ensures few { result ≤ 256 }
+        ensures few { result ≤ MAX_STRATA }
     {
         self.strata
     }

@@ -5,7 +5,7 @@ use Rattle.polys.specs.Poly.{Polynomial}
 use Rattle.singular_text.specs.declared.evaluation.Frame.{Frame}
 use Rattle.singular_text.specs.declared.faults.ReadFault.{ReadFault}
 use Rattle.singular_text.specs.declared.faults.ReadFault.TheVariants.{Syntax, Characteristic, Limit, Memory}
-use Rattle.singular_text.specs.Evaluating.{IsFault, Agrees, and_then, close, sign_step_by, signed_frame}
+use Rattle.singular_text.specs.Evaluating.{IsFault, IsReadAs, and_then, close, sign_step_by, signed_frame}
 
 pub fault_through : {A B : Type 0} (fault : ReadFault) (r : Result A ReadFault) (next : A → Result B ReadFault) → IsFault fault r → IsFault fault (and_then r next)
 fault_through Syntax r next is = ap (λ s. and_then s next) is
@@ -13,13 +13,13 @@ fault_through Characteristic r next is = ap (λ s. and_then s next) is
 fault_through (Limit which) r next is = ap (λ s. and_then s next) is
 fault_through Memory r next is = tt
 
-pub ok_through : {A B X : Type 0} (view : X → B) (result : Result X ReadFault) (r : Result A ReadFault) (x : A) (next : A → Result B ReadFault) → r ≡ Ok x → Agrees view result (next x)
-    → Agrees view result (and_then r next)
-ok_through {A} {B} {X} view result r x next is agrees = let P : Result A ReadFault → Type 0 = λ (s : Result A ReadFault). Agrees view result (and_then s next) in subst P (sym is) agrees
+pub ok_through : {A B X : Type 0} (view : X → B) (result : Result X ReadFault) (r : Result A ReadFault) (x : A) (next : A → Result B ReadFault) → r ≡ Ok x → IsReadAs view result (next x)
+    → IsReadAs view result (and_then r next)
+ok_through {A} {B} {X} view result r x next is agrees = let P : Result A ReadFault → Type 0 = λ (s : Result A ReadFault). IsReadAs view result (and_then s next) in subst P (sym is) agrees
 
 -- the exit of a `?`
 pub handed_on : {X Y : Type 0} (view : X → Y) (result : Result X ReadFault) (fault : ReadFault) (read : Result Y ReadFault) → IsErrAnd result (λ y. y ≡ fault) → IsFault fault read
-    → Agrees view result read
+    → IsReadAs view result read
 handed_on view (Ok x) fault read handed is = absurd handed
 handed_on view (Err y) fault read handed is = let P : ReadFault → Type 0 = λ (f : ReadFault). IsFault f read in subst P (sym handed) is
 

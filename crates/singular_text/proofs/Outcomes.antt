@@ -24,7 +24,7 @@ use Rattle.problem_form.specs.Reading.{begun_at}
 use Rattle.problem.specs.Problem.{ProblemData, problem_data, IsFitProblem, IsFit}
 use Rattle.problem_form.specs.ProblemText.{ProblemText, DenominatorText, IsGrammatical, IsTextOf, HasText, AreExpressions, IsDenominator, list_spelling, denominator_spelling, at_spelling, denominators, expressions, greatest}
 use Rattle.singular_text.specs.Meanings.{Answers, denominator_value, has_small_values, first_fault, problem_of}
-use Rattle.singular_text.specs.Evaluating.{Agrees, and_then, evaluate, new_frame}
+use Rattle.singular_text.specs.Evaluating.{IsReadAs, and_then, evaluate, new_frame}
 use Rattle.singular_text.specs.Checks.{HasFitPolys, count_fault, or_fault, denominator_by, denominator_at, points_at, problem_with, problem_at, problem_by}
 use Rattle.problem_form.specs.Forms.{body_spelling, Counts, IsFormOf}
 use Rattle.singular_text.proofs.SmallValues.{where_small, poly, list_values}
@@ -251,7 +251,7 @@ fine : (f : Option ReadFault) (x y : Problem) → or_fault f (Ok x) ≡ Ok y →
 fine None x y h = (refl, ok_same x y h)
 fine (Some k) x y h = absurd (cc)
 
-answered : (t : ProblemText) (result : Result Problem ReadFault) → Agrees (λ r. r) result (or_fault (first_fault t) (Ok (stated t))) → Answers result t
+answered : (t : ProblemText) (result : Result Problem ReadFault) → IsReadAs (λ r. r) result (or_fault (first_fault t) (Ok (stated t))) → Answers result t
 answered t (Ok problem) h = let f = fine (first_fault t) (stated t) problem h in (f.0, ap problem_data (sym f.1) ∙ data_is t)
 answered t (Err Memory) h = tt
 answered t (Err Syntax) h = faulty (first_fault t) (stated t) Syntax h
@@ -259,9 +259,9 @@ answered t (Err Characteristic) h = faulty (first_fault t) (stated t) Characteri
 answered t (Err (Limit which)) h = faulty (first_fault t) (stated t) (Limit which) h
 
 pub answers : (bytes digits letters : List ℕ) (s : Scan) (ts : List (List ℕ)) (result : Result Problem ReadFault) → ((t : ProblemText) → IsTextOf bytes t → IsFormOf digits letters s ts t)
-    → Agrees (λ r. r) result (problem_by digits letters s ts) → (t : ProblemText) → IsTextOf bytes t → Answers result t
+    → IsReadAs (λ r. r) result (problem_by digits letters s ts) → (t : ProblemText) → IsTextOf bytes t → Answers result t
 answers bytes digits letters s ts result each agrees t is =
-    let P : Result Problem ReadFault → Type 0 = λ (r : Result Problem ReadFault). Agrees (λ q. q) result r in
+    let P : Result Problem ReadFault → Type 0 = λ (r : Result Problem ReadFault). IsReadAs (λ q. q) result r in
     answered t result (subst P (outcome digits letters s ts t is.grammatical (each t is)) agrees)
 
 pub no_fault_of_syntax : (bytes : List ℕ) (result : Result Problem ReadFault) → ((t : ProblemText) → IsTextOf bytes t → Answers result t) → result ≡ Err Syntax → HasText bytes → ⊥

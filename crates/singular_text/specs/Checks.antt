@@ -5,7 +5,7 @@ use Rattle.prime_field.specs.Primes.{characteristics}
 use Rattle.prime_field.specs.Primes as primes
 use Rattle.polys.specs.Poly.{Polynomial}
 use Rattle.problem.specs.Problem.{IsFit}
-use Rattle.problem.specs.declared.limits.TheConstants.{MAX_VARIABLES, MAX_GENERATORS, MAX_STATEMENTS, MAX_POINT_POLYNOMIALS, MAX_NESTING, MAX_DIGITS}
+use Rattle.problem.specs.declared.limits.TheConstants.{MAX_LETTERS, MAX_GENERATORS, MAX_STATEMENTS, MAX_POINT_POLYNOMIALS, MAX_NESTING, MAX_DIGITS}
 use Rattle.problem.specs.declared.problem.Problem.{Problem}
 use Rattle.poly_text.specs.Digits.{number}
 use Rattle.problem_form.specs.declared.scanning.Scan.{Scan}
@@ -61,7 +61,7 @@ problem_at p letters n ts =
 unfoldable pub problem_by : List ℕ → List ℕ → Scan → List (List ℕ) → Result Problem ReadFault
 problem_by digits letters s ts =
     if not (primes.is_among characteristics (number digits)) then Err Characteristic
-    else (if nat_lt MAX_VARIABLES (length letters) then Err (Limit Variables) else or_fault (count_fault s) (problem_at (number digits) letters s.statements ts))
+    else (if nat_lt MAX_LETTERS (length letters) then Err (Limit Variables) else or_fault (count_fault s) (problem_at (number digits) letters s.statements ts))
 
 -- each polynomial is over the prime and in the letters' variables, and has degree at most 60
 pub record HasFitPolys (problem : Problem) : Type 0 where

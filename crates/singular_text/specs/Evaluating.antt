@@ -20,14 +20,14 @@ abbrev pub IsFault : {Y : Type 0} → ReadFault → Result Y ReadFault → Type 
 IsFault Memory read = Unit {0}
 IsFault fault read = read ≡ Err fault
 
-abbrev pub Agrees : {X Y : Type 0} → (X → Y) → Result X ReadFault → Result Y ReadFault → Type 0
-Agrees view (Ok x) read = read ≡ Ok (view x)
-Agrees view (Err fault) read = IsFault fault read
+abbrev pub IsReadAs : {X Y : Type 0} → (X → Y) → Result X ReadFault → Result Y ReadFault → Type 0
+IsReadAs view (Ok x) read = read ≡ Ok (view x)
+IsReadAs view (Err fault) read = IsFault fault read
 
 -- the same of a step, which leaves these frames
-abbrev pub AgreesStep : Result Frame ReadFault → List Frame → Result (Frame × List Frame) ReadFault → Type 0
-AgreesStep (Ok frame) frames read = read ≡ Ok (frame, frames)
-AgreesStep (Err fault) frames read = IsFault fault read
+abbrev pub IsStepReadAs : Result Frame ReadFault → List Frame → Result (Frame × List Frame) ReadFault → Type 0
+IsStepReadAs (Ok frame) frames read = read ≡ Ok (frame, frames)
+IsStepReadAs (Err fault) frames read = IsFault fault read
 
 -- the next step of a value, or the fault so far
 abbrev pub and_then : {A B : Type 0} → Result A ReadFault → (A → Result B ReadFault) → Result B ReadFault

@@ -5,7 +5,7 @@ use Rattle.prime_field.specs.Primes.{characteristics}
 use Rattle.prime_field.specs.Primes as primes
 use Rattle.polys.specs.declared.term.Term.{Term}
 use Rattle.problem.specs.Problem.{ProblemData, IsProblem, problem_data}
-use Rattle.problem.specs.declared.limits.TheConstants.{MAX_VARIABLES, MAX_GENERATORS, MAX_STATEMENTS, MAX_POINT_POLYNOMIALS, MAX_NESTING, MAX_DIGITS}
+use Rattle.problem.specs.declared.limits.TheConstants.{MAX_LETTERS, MAX_GENERATORS, MAX_STATEMENTS, MAX_POINT_POLYNOMIALS, MAX_NESTING, MAX_DIGITS}
 use Rattle.problem.specs.declared.problem.Problem.{Problem}
 use Rattle.poly_text.specs.Digits.{number}
 use Rattle.problem_form.specs.Expressions.{Expression, nesting, most_digits}
@@ -24,7 +24,7 @@ abbrev pub first_fault : ProblemText → Option ReadFault
 first_fault t =
     let p = number t.characteristic in
     if not (primes.is_among characteristics p) then Some Characteristic
-    else (if nat_lt MAX_VARIABLES (length t.letters) then Some (Limit Variables)
+    else (if nat_lt MAX_LETTERS (length t.letters) then Some (Limit Variables)
     else (if nat_lt MAX_GENERATORS (length t.generators) then Some (Limit Generators)
     else (if nat_lt MAX_STATEMENTS (length t.at) || nat_lt MAX_POINT_POLYNOMIALS (greatest (λ es. length es) t.at) then Some (Limit Points)
     else (if nat_lt MAX_NESTING (greatest nesting (expressions t)) then Some (Limit Nesting)

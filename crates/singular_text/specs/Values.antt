@@ -5,7 +5,7 @@ use Rattle.monomials.specs.Mono.{Monomial, unit, variable}
 use Rattle.polys.specs.declared.term.Term.{Term}
 use Rattle.polys.specs.Terms.{normal, add, sub, mul, power, degree_of}
 use Rattle.problem.specs.Letters.{place}
-use Rattle.problem.specs.declared.limits.TheConstants.{MAX_TERMS, MAX_DEGREE}
+use Rattle.problem.specs.declared.limits.TheConstants.{MAX_TERMS, MAX_VALUE_DEGREE}
 use Rattle.poly_text.specs.Digits.{number}
 use Rattle.poly_text.specs.Raising.{raised}
 use Rattle.problem_form.specs.Expressions.{Expression, Letter, Number, Parentheses, Run, Power, Product, Signed, Sum}
@@ -69,4 +69,4 @@ subexpressions (Sum earlier is_negative term) = Sum earlier is_negative term ∷
 
 -- at most 2,000 terms, of degree at most 60; the degree of 0 counts as 0
 abbrev pub is_small : List Term → Bool
-is_small f = nat_le (length f) MAX_TERMS && nat_le (degree_of f) MAX_DEGREE
+is_small f = nat_le (length f) MAX_TERMS && nat_le (degree_of f) MAX_VALUE_DEGREE

@@ -8,9 +8,9 @@ ghost use Rattle.problem_form.specs.Tokens.{tokens};
 ghost use Rattle.problem_form.specs.Words.{class_of, is_run, IsLetterOf};
 ghost use Rattle.problem.specs.Letters.{is_among, place};
 ghost use Rattle.poly_text.specs.Digits.{number};
-ghost use Rattle.problem.specs.declared.limits.TheConstants.{MAX_DEGREE};
+ghost use Rattle.problem.specs.declared.limits.TheConstants.{MAX_VALUE_DEGREE};
 ghost use Rattle.singular_text.specs.Values.{front_number, run_monomial, term_of, is_small};
-ghost use Rattle.singular_text.specs.Evaluating.{IsFault, Agrees, AgreesStep, IsFitFrame, checked, zero_poly, term_with, last_term, sum_with, close, new_frame, signed_frame, with_factor, star, sign_step, constant, variable_token, run_value, power_value, number_step, inner_step, step, evaluate};
+ghost use Rattle.singular_text.specs.Evaluating.{IsFault, IsReadAs, IsStepReadAs, IsFitFrame, checked, zero_poly, term_with, last_term, sum_with, close, new_frame, signed_frame, with_factor, star, sign_step, constant, variable_token, run_value, power_value, number_step, inner_step, step, evaluate};
 ghost use Rattle.problem.specs.Problem.{IsFit};
 
 use crate::faults::{ReadFault, Which};
@@ -20,7 +20,7 @@ use monomials::Mono;
 use poly_text::digit_value;
 use polys::{Poly, Term, degrees_are_bounded, leads_multiply, polynomials_are_a_ring};
 use prime_field::Prime;
-use problem::limits::{MAX_DEGREE, MAX_TERMS};
+use problem::limits::{MAX_TERMS, MAX_VALUE_DEGREE};
 use problem::{Letters, place};
 use problem_form::{Class, class_of, next_token};
 use std::alloc::Global;
@@ -94,9 +94,9 @@ impl Frame {
 // The value, where it is small enough.
 fn checked(f: Poly) -> Result<Poly, ReadFault>
     ensures exact { result ≡ checked f }
-    ensures degree { IfOk result (λ r. (r ≡ f) × (degree_of r.terms ≤ MAX_DEGREE)) }
+    ensures degree { IfOk result (λ r. (r ≡ f) × (degree_of r.terms ≤ MAX_VALUE_DEGREE)) }
 {
-    if f.terms().len() > MAX_TERMS || f.degree() > MAX_DEGREE {
+    if f.terms().len() > MAX_TERMS || f.degree() > MAX_VALUE_DEGREE {
         return Err(ReadFault::Limit(Which::Size));
     }
     Ok(f)
@@ -106,8 +106,8 @@ fn checked(f: Poly) -> Result<Poly, ReadFault>
 fn small_power(base: &Poly, n: u32) -> Result<Poly, ReadFault>
     requires plain { EachMono IsPlain base.now.terms }
     requires room { degree_of base.now.terms * n ≤ 60000 }
-    ensures exact { Agrees (λ f. f) result (checked (power_of base.now n)) }
-    ensures degree { IfOk result (λ r. (r ≡ power_of base.now n) × (degree_of r.terms ≤ MAX_DEGREE)) }
+    ensures exact { IsReadAs (λ f. f) result (checked (power_of base.now n)) }
+    ensures degree { IfOk result (λ r. (r ≡ power_of base.now n) × (degree_of r.terms ≤ MAX_VALUE_DEGREE)) }
 {
     match base.power_within(n, MAX_TERMS)? {
         None => Err(ReadFault::Limit(Which::Size)),
@@ -128,7 +128,7 @@ impl Ground {
         requires residue { coeff < self.now.prime }
         requires known { IsMono mono }
         requires affine { IsAffine (length self.now.letters) mono }
-        ensures exact { Agrees (λ f. f) result (checked (record { prime = self.now.prime; terms = term_of self.now.prime coeff mono })) }
+        ensures exact { IsReadAs (λ f. f) result (checked (record { prime = self.now.prime; terms = term_of self.now.prime coeff mono })) }
         ensures fit { IfOk result (IsFit self.now.prime (length self.now.letters)) }
     {
         let f = Poly::from_term(self.alloc, self.prime, Term { coeff, mono })?;
@@ -137,7 +137,7 @@ impl Ground {
 
     fn variable(&self, token: &[u8]) -> Result<Poly, ReadFault>
         requires { IsLetterOf self.now.letters token.now }
-        ensures exact { Agrees (λ f. f) result (variable_token self.now.prime self.now.letters token.now) }
+        ensures exact { IsReadAs (λ f. f) result (variable_token self.now.prime self.now.letters token.now) }
         ensures fit { IfOk result (IsFit self.now.prime (length self.now.letters)) }
     {
         let [letter] = token else {
@@ -149,7 +149,7 @@ impl Ground {
     }
 
     fn constant(&self, digits: &[u8]) -> Result<Poly, ReadFault>
-        ensures exact { Agrees (λ f. f) result (constant self.now.prime digits.now) }
+        ensures exact { IsReadAs (λ f. f) result (constant self.now.prime digits.now) }
         ensures fit { IfOk result (IsFit self.now.prime (length self.now.letters)) }
     {
         self.term_of(number_modulo(self.prime, digits), Mono::one())
@@ -157,7 +157,7 @@ impl Ground {
 
     fn run(&self, word: &[u8]) -> Result<Poly, ReadFault>
         requires { is_run self.now.letters word.now ≡ true }
-        ensures exact { Agrees (λ f. f) result (run_value self.now.prime self.now.letters word.now) }
+        ensures exact { IsReadAs (λ f. f) result (run_value self.now.prime self.now.letters word.now) }
         ensures fit { IfOk result (IsFit self.now.prime (length self.now.letters)) }
     {
         let coeff = front_modulo(self.prime, word);
@@ -174,7 +174,7 @@ impl Ground {
     fn constant_power(&self, base: &Poly, digits: &[u8]) -> Result<Poly, ReadFault>
         requires fit { IsFit self.now.prime (length self.now.letters) base.now }
         requires constant { degree_of base.now.terms ≡ 0 }
-        ensures exact { Agrees (λ f. f) result (Ok (power_of base.now (number digits.now))) }
+        ensures exact { IsReadAs (λ f. f) result (Ok (power_of base.now (number digits.now))) }
         ensures fit { IfOk result (IsFit self.now.prime (length self.now.letters)) }
     {
         let _prime = self.prime.get();
@@ -191,7 +191,7 @@ impl Ground {
     // Modulo a prime the degree of a power is the multiple of the degree.
     fn power(&self, base: &Poly, digits: &[u8]) -> Result<Poly, ReadFault>
         requires { IsFit self.now.prime (length self.now.letters) base.now }
-        ensures exact { Agrees (λ f. f) result (power_value base.now digits.now) }
+        ensures exact { IsReadAs (λ f. f) result (power_value base.now digits.now) }
         ensures fit { IfOk result (IsFit self.now.prime (length self.now.letters)) }
     {
         let degree = base.degree();
@@ -201,8 +201,8 @@ impl Ground {
         let _prime = self.prime.get();
         polynomials_are_a_ring();
         leads_multiply();
-        let n = number_up_to(MAX_DEGREE + 1, digits);
-        if n * degree > MAX_DEGREE {
+        let n = number_up_to(MAX_VALUE_DEGREE + 1, digits);
+        if n * degree > MAX_VALUE_DEGREE {
             return Err(ReadFault::Limit(Which::Size));
         }
         small_power(base, n)
@@ -211,7 +211,7 @@ impl Ground {
     fn product(&self, f: &Poly, g: &Poly) -> Result<Poly, ReadFault>
         requires left { IsFit self.now.prime (length self.now.letters) f.now }
         requires right { IsFit self.now.prime (length self.now.letters) g.now }
-        ensures exact { Agrees (λ f. f) result (checked (product_of f.now g.now)) }
+        ensures exact { IsReadAs (λ f. f) result (checked (product_of f.now g.now)) }
         ensures fit { IfOk result (IsFit self.now.prime (length self.now.letters)) }
     {
         let _prime = self.prime.get();
@@ -222,7 +222,7 @@ impl Ground {
     fn sum_of(&self, f: &Poly, g: &Poly) -> Result<Poly, ReadFault>
         requires left { IsFit self.now.prime (length self.now.letters) f.now }
         requires right { IsFit self.now.prime (length self.now.letters) g.now }
-        ensures exact { Agrees (λ f. f) result (checked (sum_of f.now g.now)) }
+        ensures exact { IsReadAs (λ f. f) result (checked (sum_of f.now g.now)) }
         ensures fit { IfOk result (IsFit self.now.prime (length self.now.letters)) }
     {
         let _prime = self.prime.get();
@@ -233,7 +233,7 @@ impl Ground {
     fn difference(&self, f: &Poly, g: &Poly) -> Result<Poly, ReadFault>
         requires left { IsFit self.now.prime (length self.now.letters) f.now }
         requires right { IsFit self.now.prime (length self.now.letters) g.now }
-        ensures exact { Agrees (λ f. f) result (checked (difference_of f.now g.now)) }
+        ensures exact { IsReadAs (λ f. f) result (checked (difference_of f.now g.now)) }
         ensures fit { IfOk result (IsFit self.now.prime (length self.now.letters)) }
     {
         let _prime = self.prime.get();
@@ -245,7 +245,7 @@ impl Ground {
     fn term(&self, product: Option<Poly>, factor: Option<Poly>) -> Result<Poly, ReadFault>
         requires product { IfSome product (IsFit self.now.prime (length self.now.letters)) }
         requires factor { IfSome factor (IsFit self.now.prime (length self.now.letters)) }
-        ensures exact { Agrees (λ f. f) result (last_term product factor) }
+        ensures exact { IsReadAs (λ f. f) result (last_term product factor) }
         ensures fit { IfOk result (IsFit self.now.prime (length self.now.letters)) }
     {
         let Some(factor) = factor else {
@@ -261,7 +261,7 @@ impl Ground {
     fn sum(&self, sum: Option<Poly>, is_negative: bool, term: Poly) -> Result<Poly, ReadFault>
         requires sum { IfSome sum (IsFit self.now.prime (length self.now.letters)) }
         requires term { IsFit self.now.prime (length self.now.letters) term }
-        ensures exact { Agrees (λ f. f) result (sum_with self.now.prime sum is_negative term) }
+        ensures exact { IsReadAs (λ f. f) result (sum_with self.now.prime sum is_negative term) }
         ensures fit { IfOk result (IsFit self.now.prime (length self.now.letters)) }
     {
         match sum {
@@ -275,7 +275,7 @@ impl Ground {
     // The whole expression of a frame.
     fn close(&self, frame: Frame) -> Result<Poly, ReadFault>
         requires { IsFitFrame self.now.prime (length self.now.letters) frame }
-        ensures exact { Agrees (λ f. f) result (close self.now.prime frame) }
+        ensures exact { IsReadAs (λ f. f) result (close self.now.prime frame) }
         ensures fit { IfOk result (IsFit self.now.prime (length self.now.letters)) }
     {
         let Frame {
@@ -291,7 +291,7 @@ impl Ground {
 
     fn star(&self, frame: Frame) -> Result<Frame, ReadFault>
         requires { IsFitFrame self.now.prime (length self.now.letters) frame }
-        ensures exact { Agrees (λ f. f) result (star frame) }
+        ensures exact { IsReadAs (λ f. f) result (star frame) }
         ensures fit { IfOk result (IsFitFrame self.now.prime (length self.now.letters)) }
     {
         let Frame {
@@ -313,7 +313,7 @@ impl Ground {
 
     fn sign(&self, frame: Frame, is_negative: bool) -> Result<Frame, ReadFault>
         requires { IsFitFrame self.now.prime (length self.now.letters) frame }
-        ensures exact { Agrees (λ f. f) result (sign_step self.now.prime frame is_negative) }
+        ensures exact { IsReadAs (λ f. f) result (sign_step self.now.prime frame is_negative) }
         ensures fit { IfOk result (IsFitFrame self.now.prime (length self.now.letters)) }
     {
         if frame.factor.is_none() {
@@ -326,7 +326,7 @@ impl Ground {
     // A number is an exponent behind a caret.
     fn number(&self, frame: Frame, digits: &[u8]) -> Result<Frame, ReadFault>
         requires { IsFitFrame self.now.prime (length self.now.letters) frame }
-        ensures exact { Agrees (λ f. f) result (number_step self.now.prime frame digits.now) }
+        ensures exact { IsReadAs (λ f. f) result (number_step self.now.prime frame digits.now) }
         ensures fit { IfOk result (IsFitFrame self.now.prime (length self.now.letters)) }
     {
         if !frame.is_raised {
@@ -344,7 +344,7 @@ impl Ground {
     fn inner_step(&self, class: Class, token: &[u8], frame: Frame) -> Result<Frame, ReadFault>
         requires fit { IsFitFrame self.now.prime (length self.now.letters) frame }
         requires class { class ≡ class_of self.now.letters token.now }
-        ensures exact { Agrees (λ f. f) result (inner_step self.now.prime self.now.letters class token.now frame) }
+        ensures exact { IsReadAs (λ f. f) result (inner_step self.now.prime self.now.letters class token.now frame) }
         ensures fit { IfOk result (IsFitFrame self.now.prime (length self.now.letters)) }
     {
         match class {
@@ -375,7 +375,7 @@ impl Ground {
         requires fit { IsFitFrame self.now.prime (length self.now.letters) frame }
         requires outer { AllByRecursion (IsFitFrame self.now.prime (length self.now.letters)) frames.old.items }
         requires class { class ≡ class_of self.now.letters token.now }
-        ensures exact { AgreesStep result frames.new.items (step self.now.prime self.now.letters class token.now frame frames.old.items) }
+        ensures exact { IsStepReadAs result frames.new.items (step self.now.prime self.now.letters class token.now frame frames.old.items) }
         ensures fit { IfOk result (IsFitFrame self.now.prime (length self.now.letters)) }
         ensures outer { OnOk result (AllByRecursion (IsFitFrame self.now.prime (length self.now.letters)) frames.new.items) }
     {
@@ -397,7 +397,7 @@ impl Ground {
 
     /// The values of the expressions up to a semicolon, and the text behind it.
     pub fn list<'a>(&self, text: &'a [u8]) -> Result<(List<Poly>, &'a [u8]), ReadFault>
-        ensures exact { Agrees (λ r. (r.0, tokens r.1.now)) result (evaluate self.now.prime self.now.letters [] new_frame [] (tokens text.now)) }
+        ensures exact { IsReadAs (λ r. (r.0, tokens r.1.now)) result (evaluate self.now.prime self.now.letters [] new_frame [] (tokens text.now)) }
         ensures fit { IfOk result (λ r. AllByRecursion (IsFit self.now.prime (length self.now.letters)) r.0) }
     {
         let mut values = List::new(self.alloc);

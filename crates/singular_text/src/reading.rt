@@ -5,7 +5,7 @@ ghost use Rattle.prime_field.specs.Primes.{IsCharacteristic};
 ghost use Rattle.singular_text.specs.declared.faults.ReadFault.TheVariants.{Syntax, Characteristic, Limit};
 ghost use Rattle.problem_form.specs.Tokens.{tokens};
 ghost use Rattle.poly_text.specs.Digits.{number};
-ghost use Rattle.singular_text.specs.Evaluating.{Agrees};
+ghost use Rattle.singular_text.specs.Evaluating.{IsReadAs};
 ghost use Rattle.problem.specs.Problem.{IsFit, IsFitProblem, IsProblem, problem_data};
 ghost use Rattle.problem_form.specs.ProblemText.{ProblemText, IsTextOf, HasText};
 ghost use Rattle.singular_text.specs.Meanings.{IsOfText, Answers};
@@ -68,7 +68,7 @@ fn behind_token(text: &[u8]) -> &[u8]
 // The value of a denominator, if its statement stands here, and the text behind it.
 #[tactic(auto, unfolding(crate::specs::Checks::denominator_at))]
 fn denominator<'a>(ground: &Ground, text: &'a [u8]) -> Result<(Option<Poly>, &'a [u8]), ReadFault>
-    ensures exact { Agrees (λ r. (r.0, tokens r.1.now)) result (denominator_at ground.now.prime ground.now.letters (tokens text.now)) }
+    ensures exact { IsReadAs (λ r. (r.0, tokens r.1.now)) result (denominator_at ground.now.prime ground.now.letters (tokens text.now)) }
     ensures fit { IfOk result (λ r. IfSome r.0 (IsFit ground.now.prime (length ground.now.letters))) }
 {
     let Some(behind) = begun_at(text, b"poly") else {
@@ -80,7 +80,7 @@ fn denominator<'a>(ground: &Ground, text: &'a [u8]) -> Result<(Option<Poly>, &'a
 
 // The values of so many `at` statements.
 fn points(ground: &Ground, count: usize, text: &[u8]) -> Result<List<List<Poly>>, ReadFault>
-    ensures exact { Agrees (λ r. r) result (points_at ground.now.prime ground.now.letters [] count (tokens text.now)) }
+    ensures exact { IsReadAs (λ r. r) result (points_at ground.now.prime ground.now.letters [] count (tokens text.now)) }
     ensures fit { IfOk result (AllByRecursion (AllByRecursion (IsFit ground.now.prime (length ground.now.letters)))) }
 {
     let mut at = List::new(ground.alloc);
@@ -96,7 +96,7 @@ fn points(ground: &Ground, count: usize, text: &[u8]) -> Result<List<List<Poly>>
 // The problem of statements that have their form and are within their limits.
 #[tactic(auto, unfolding(crate::specs::Checks::problem_at))]
 fn evaluate(ground: Ground, count: usize, text: &[u8]) -> Result<Problem, ReadFault>
-    ensures exact { Agrees (λ r. r) result (problem_at ground.prime ground.letters count (tokens text.now)) }
+    ensures exact { IsReadAs (λ r. r) result (problem_at ground.prime ground.letters count (tokens text.now)) }
     ensures fit { IfOk result HasFitPolys }
 {
     let (generators, rest) = ground.list(text)?;
@@ -120,7 +120,7 @@ fn evaluate(ground: Ground, count: usize, text: &[u8]) -> Result<Problem, ReadFa
 #[tactic(auto, unfolding(crate::specs::Checks::problem_by))]
 fn checked_problem(alloc: Global, form: &Form) -> Result<Problem, ReadFault>
     requires { AreRingLetters form.now.letters }
-    ensures exact { Agrees (λ r. r) result (problem_by form.now.characteristic.now form.now.letters form.now.scan (tokens form.now.text.now)) }
+    ensures exact { IsReadAs (λ r. r) result (problem_by form.now.characteristic.now form.now.letters form.now.scan (tokens form.now.text.now)) }
     ensures fit { IfOk result HasFitPolys }
 {
     let prime = characteristic(form.characteristic)?;

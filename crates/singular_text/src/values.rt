@@ -4,14 +4,14 @@ ghost use Rattle.monomials.specs.Mono.{unit, total_degree, IsMono};
 ghost use Rattle.problem.specs.Letters.{is_among, place};
 ghost use Rattle.problem_form.specs.Words.{are_run_bytes};
 ghost use Rattle.poly_text.specs.Digits.{number};
-ghost use Rattle.problem.specs.declared.limits.TheConstants.{MAX_DEGREE};
+ghost use Rattle.problem.specs.declared.limits.TheConstants.{MAX_VALUE_DEGREE, MAX_LETTERS};
 ghost use Rattle.singular_text.specs.Values.{front_digits, front_number, run_after, run_monomial};
 ghost use Rattle.poly_text.specs.Raising.{raised};
 
 use monomials::Mono;
 use poly_text::{digit_value, raised};
 use prime_field::Prime;
-use problem::limits::MAX_DEGREE;
+use problem::limits::MAX_VALUE_DEGREE;
 use problem::place;
 
 /// The number of these digits modulo p.
@@ -54,15 +54,15 @@ pub fn digits_at_front(word: &[u8]) -> usize
 
 // The monomial with a letter of a run raised by the number behind it, or `None` where the degree is above 60.
 fn with_letter(letters: &[u8], mono: Mono, letter: u8, behind: &[u8]) -> Option<Mono>
-    requires few { length letters.now ≤ 6 }
+    requires few { length letters.now ≤ MAX_LETTERS }
     requires among { is_among letters.now letter ≡ true }
     requires known { IsMono mono }
-    requires small { total_degree mono.exponents ≤ MAX_DEGREE }
-    ensures exact { MatchOption result (MAX_DEGREE < total_degree mono.exponents + front_number behind.now) (λ m. m ≡ raised mono (place letters.now letter) (front_number behind.now)) }
-    ensures known { IfSome result (λ m. IsMono m × (total_degree m.exponents ≤ MAX_DEGREE)) }
+    requires small { total_degree mono.exponents ≤ MAX_VALUE_DEGREE }
+    ensures exact { MatchOption result (MAX_VALUE_DEGREE < total_degree mono.exponents + front_number behind.now) (λ m. m ≡ raised mono (place letters.now letter) (front_number behind.now)) }
+    ensures known { IfSome result (λ m. IsMono m × (total_degree m.exponents ≤ MAX_VALUE_DEGREE)) }
 {
     let e = exponent_at(behind);
-    if mono.degree() + e > MAX_DEGREE {
+    if mono.degree() + e > MAX_VALUE_DEGREE {
         return None;
     }
     Some(raised(mono, place(letters, letter) as u32, e))
@@ -70,12 +70,12 @@ fn with_letter(letters: &[u8], mono: Mono, letter: u8, behind: &[u8]) -> Option<
 
 // The monomial behind a byte of a run, or `None` where the degree of the whole is above 60.
 fn with_byte(letters: &[u8], mono: Mono, byte: u8, behind: &[u8]) -> Option<Mono>
-    requires few { length letters.now ≤ 6 }
+    requires few { length letters.now ≤ MAX_LETTERS }
     requires bytes { are_run_bytes letters.now (byte ∷ behind.now) ≡ true }
     requires known { IsMono mono }
-    requires small { total_degree mono.exponents ≤ MAX_DEGREE }
-    ensures exact { MatchOption result (MAX_DEGREE < total_degree (run_after letters.now mono (byte ∷ behind.now)).exponents) (λ m. run_after letters.now m behind.now ≡ run_after letters.now mono (byte ∷ behind.now)) }
-    ensures known { IfSome result (λ m. IsMono m × (total_degree m.exponents ≤ MAX_DEGREE)) }
+    requires small { total_degree mono.exponents ≤ MAX_VALUE_DEGREE }
+    ensures exact { MatchOption result (MAX_VALUE_DEGREE < total_degree (run_after letters.now mono (byte ∷ behind.now)).exponents) (λ m. run_after letters.now m behind.now ≡ run_after letters.now mono (byte ∷ behind.now)) }
+    ensures known { IfSome result (λ m. IsMono m × (total_degree m.exponents ≤ MAX_VALUE_DEGREE)) }
 {
     if byte.is_ascii_digit() {
         return Some(mono);
@@ -85,10 +85,10 @@ fn with_byte(letters: &[u8], mono: Mono, byte: u8, behind: &[u8]) -> Option<Mono
 
 /// The monomial of a run, or `None` where its degree is above 60.
 pub fn run_monomial(letters: &[u8], word: &[u8]) -> Option<Mono>
-    requires few { length letters.now ≤ 6 }
+    requires few { length letters.now ≤ MAX_LETTERS }
     requires bytes { are_run_bytes letters.now word.now ≡ true }
-    ensures exact { MatchOption result (MAX_DEGREE < total_degree (run_monomial letters.now word.now).exponents) (λ m. m ≡ run_monomial letters.now word.now) }
-    ensures known { IfSome result (λ m. IsMono m × (total_degree m.exponents ≤ MAX_DEGREE)) }
+    ensures exact { MatchOption result (MAX_VALUE_DEGREE < total_degree (run_monomial letters.now word.now).exponents) (λ m. m ≡ run_monomial letters.now word.now) }
+    ensures known { IfSome result (λ m. IsMono m × (total_degree m.exponents ≤ MAX_VALUE_DEGREE)) }
 {
     let mut mono = Mono::one();
     for (i, byte) in word.iter().enumerate() {
@@ -99,13 +99,13 @@ pub fn run_monomial(letters: &[u8], word: &[u8]) -> Option<Mono>
 
 // The number at the front, which is 1 where no digit stands there, or 61 where it is greater.
 fn exponent_at(word: &[u8]) -> u32
-    ensures { result ≡ min (front_number word.now) (MAX_DEGREE + 1) }
+    ensures { result ≡ min (front_number word.now) (MAX_VALUE_DEGREE + 1) }
 {
     let count = digits_at_front(word);
     if count == 0 {
         return 1;
     }
-    number_up_to(MAX_DEGREE + 1, &word[..count])
+    number_up_to(MAX_VALUE_DEGREE + 1, &word[..count])
 }
 
 /// The number at the front of a run modulo p, which is 1 where no digit stands there.

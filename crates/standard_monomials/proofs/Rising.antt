@@ -12,7 +12,7 @@ use Rattle.monomials.specs.Mono.{Monomial, cmp_dp}
 use Rattle.monomials.proofs.Order.{dp_total, same_dp, self_dp, turn_up, turn_down}
 use Rattle.ideal_laws.proofs.Unique.{contains_cases, contains_head, contains_tail}
 use Rattle.standard_monomials.specs.Standard.{AreDistinct, IsRising}
-use Rattle.standard_monomials.specs.Finding.{Gains}
+use Rattle.standard_monomials.specs.Finding.{GainsMonomial}
 
 -- what is no greater than m is less than what m is less than
 pub under : (a m w : Monomial) → cmp_dp a m ≢ Greater → cmp_dp m w ≡ Less → cmp_dp a w ≡ Less
@@ -98,7 +98,7 @@ module _ (ms : List Monomial) (i : ℕ) (m : Monomial) (l : i ≤ length ms) (p 
       go Equal q = absurd (not_above (omega arith))
       go Greater q = absurd (not_above (omega arith))
 
-  pub gains_insert : IsRising ms → Gains m ms (insert ms i m)
+  pub gains_insert : IsRising ms → GainsMonomial m ms (insert ms i m)
   gains_insert r = record {
     rising = inserted r;
     longer = (let e = length-insert ms i m l in omega arith);
@@ -110,7 +110,7 @@ module _ (ms : List Monomial) (i : ℕ) (m : Monomial) (l : i ≤ length ms) (p 
   }
 
 -- a monomial that is there is no gain
-pub gains_none : (ms : List Monomial) (i : ℕ) (m : Monomial) → i < length ms → HoldsAt (λ y. cmp_dp y m ≡ Equal) ms i → IsRising ms → Gains m ms ms
+pub gains_none : (ms : List Monomial) (i : ℕ) (m : Monomial) → i < length ms → HoldsAt (λ y. cmp_dp y m ≡ Equal) ms i → IsRising ms → GainsMonomial m ms ms
 gains_none ms i m l h r = record {
   rising = r;
   longer = omega arith;

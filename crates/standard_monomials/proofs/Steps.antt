@@ -16,7 +16,7 @@ use Rattle.polys.proofs.Affine.{affine_times, only_zeros}
 use Rattle.ideal_laws.proofs.Unique.{contains_cases, contains_none, contains_head}
 use Rattle.graded_modules.specs.Module.{IsLeadMultiple}
 use Rattle.standard_monomials.specs.Standard.{IsStandard, IsRising}
-use Rattle.standard_monomials.specs.Finding.{Gains, IsNext, GainsMultiples}
+use Rattle.standard_monomials.specs.Finding.{GainsMonomial, IsNext, GainsMultiples}
 use Rattle.standard_monomials.proofs.Powers.{length_power, affine_power}
 use Rattle.standard_monomials.proofs.Rising.{under}
 use Rattle.standard_monomials.proofs.Search.{found_law}
@@ -88,7 +88,7 @@ module _ (ds : List (List Term)) (m : Monomial) where
       back w (inr n) = next w (last_or_before k w n)
 
   pub more : (k : ℕ) (old mid new : List Monomial) → length m.exponents ≡ 7 → k < 7 → GainsMultiples ds k m old mid → (IsLeadMultiple ds (times m (variable k)) → ⊥)
-      → Gains (times m (variable k)) mid new → GainsMultiples ds (k + 1) m old new
+      → GainsMonomial (times m (variable k)) mid new → GainsMultiples ds (k + 1) m old new
   more k old mid new seven l g outside h = record {
     rising = h.rising;
     longer = (let a = g.longer in let b = h.longer in omega arith);

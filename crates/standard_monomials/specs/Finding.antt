@@ -1,6 +1,7 @@
 -- Finding and counting the standard monomials of an ideal by its reduced basis.
 use Rattle.std.specs.Prelude.{◌≡◌, ◌≢◌, ◌↔◌, ◌⊎◌, ℕ, ◌<◌, ◌≤◌, List, length, map, slice_index_or, All, Contains}
 use Rattle.std.specs.declared.cmp.Ordering.TheVariants.{Less, Greater}
+use Rattle.monomials.specs.declared.mono.TheConstants.{MAX_DEGREE}
 use Rattle.monomials.specs.Mono.{Monomial, times, variable, total_degree, cmp_dp}
 use Rattle.polys.specs.declared.term.Term.{Term}
 use Rattle.polys.specs.Poly.{Polynomial}
@@ -29,7 +30,7 @@ HasLowLeads ds = All (λ f. total_degree (lead_mono f).exponents ≤ 9000) ds
 
 -- the limit is at most 60,000, or the leads have low degrees: then the search meets no monomial of a higher degree
 abbrev pub IsInReach : List (List Term) → ℕ → Type 0
-IsInReach ds limit = (limit ≤ 60000) ⊎ HasLowLeads ds
+IsInReach ds limit = (limit ≤ MAX_DEGREE) ⊎ HasLowLeads ds
 
 -- P holds of the list, if the answer is one
 abbrev pub IfListed : (List Monomial → Type 0) → Standard → Type 0
@@ -47,14 +48,14 @@ IsListed Infinite = ⊥
 
 -- each standard monomial has a degree below 60,000
 abbrev pub HasLowStandard : ℕ → List (List Term) → Type 0
-HasLowStandard n ds = (m : Monomial) → IsStandard n ds m → total_degree m.exponents < 60000
+HasLowStandard n ds = (m : Monomial) → IsStandard n ds m → total_degree m.exponents < MAX_DEGREE
 
 -- some lead is a power of the variable
 abbrev pub HasPowerLead : List (List Term) → ℕ → Type 0
 HasPowerLead ds v = (b : List Term) × Contains ds b × IsPowerOf v (lead_mono b)
 
 -- the rising list gained m, and what is smaller keeps its place
-pub record Gains (m : Monomial) (old new : List Monomial) : Type 0 where
+pub record GainsMonomial (m : Monomial) (old new : List Monomial) : Type 0 where
   pub rising : IsRising new
   pub longer : length old ≤ length new
   pub members : (w : Monomial) → Contains new w ↔ (Contains old w ⊎ (m ≡ w))

@@ -1,12 +1,13 @@
 // The standard monomials of an ideal and their number, by its reduced basis.
 ghost use Rattle.std.specs.Prelude.{◌≡◌, ◌↔◌, ℕ, ◌<◌, ◌≤◌, ◌⊎◌, List, length, All, Contains, IsTrue, IfOk, OnOk};
 ghost use Rattle.std.specs.Bool.{MatchBool};
+ghost use Rattle.monomials.specs.declared.mono.TheConstants.{MAX_VARIABLES, MAX_DEGREE};
 ghost use Rattle.monomials.specs.Mono.{Monomial, total_degree};
 ghost use Rattle.polys.specs.Ideal.{HasDim, HasInfiniteDim};
 ghost use Rattle.polys.specs.Reduced.{Reduced};
 ghost use Rattle.graded_modules.specs.Module.{IsLeadMultiple};
 ghost use Rattle.graded_modules.specs.Vector.{lead_mono};
-ghost use Rattle.standard_monomials.specs.Finding.{terms_of, HasDimUpTo, HasDimAbove, IfListed, IsListed, IsInReach, HasLowStandard, HasPowerLead, Gains, GainsMultiples};
+ghost use Rattle.standard_monomials.specs.Finding.{terms_of, HasDimUpTo, HasDimAbove, IfListed, IsListed, IsInReach, HasLowStandard, HasPowerLead, GainsMonomial, GainsMultiples};
 ghost use Rattle.standard_monomials.specs.Standard.{IsStandard, AreStandard, IsRising};
 
 use lists::{List, NoMemory};
@@ -75,7 +76,7 @@ fn has_power_lead(basis: &[Poly], v: u32) -> bool
 
 // Whether each variable has a power among the leads.
 fn has_all_power_leads(variables: u32, basis: &[Poly]) -> bool
-    requires { variables ≤ 6 }
+    requires { variables ≤ MAX_VARIABLES }
     ensures { MatchBool result ((v : ℕ) → v < variables → HasPowerLead (terms_of basis.now) v) ((v : ℕ) × (v < variables) × (HasPowerLead (terms_of basis.now) v → ⊥)) }
 {
     for v in 0..variables {
@@ -89,7 +90,7 @@ fn has_all_power_leads(variables: u32, basis: &[Poly]) -> bool
 // Puts the monomial at its place in the rising list, unless it is there.
 fn insert(found: &mut Vec<Mono>, m: Mono) -> Result<(), AllocError>
     requires { IsRising found.old.items }
-    ensures { OnOk result (Gains m found.old.items found.new.items) }
+    ensures { OnOk result (GainsMonomial m found.old.items found.new.items) }
 {
     if let Err(place) = found.as_slice().binary_search_by(|w| Mono::cmp_dp(w, &m)) {
         found.insert(place, m)?;
@@ -104,8 +105,8 @@ fn insert_multiples(
     m: Mono,
     found: &mut Vec<Mono>,
 ) -> Result<(), AllocError>
-    requires variables { variables ≤ 6 }
-    requires room { total_degree m.exponents < 60000 }
+    requires variables { variables ≤ MAX_VARIABLES }
+    requires room { total_degree m.exponents < MAX_DEGREE }
     requires seven { length m.exponents ≡ 7 }
     requires rising { IsRising found.old.items }
     ensures { OnOk result (GainsMultiples (terms_of basis.now) variables m found.old.items found.new.items) }
@@ -126,8 +127,8 @@ fn search(
     basis: &[Poly],
     limit: usize,
 ) -> Result<Vec<Mono>, AllocError>
-    requires variables { variables ≤ 6 }
-    requires reach { (limit ≤ 60000) ⊎ HasLowStandard variables (terms_of basis.now) }
+    requires variables { variables ≤ MAX_VARIABLES }
+    requires reach { (limit ≤ MAX_DEGREE) ⊎ HasLowStandard variables (terms_of basis.now) }
     ensures rising { IfOk result (λ found. IsRising found.items) }
     ensures each { IfOk result (λ found. All (IsStandard variables (terms_of basis.now)) found.items) }
     ensures whole { IfOk result (λ found. length found.items ≤ limit → (m : Monomial) → IsStandard variables (terms_of basis.now) m → Contains found.items m) }
@@ -164,7 +165,7 @@ pub fn standard_monomials(
     basis: &[Poly],
     limit: u32,
 ) -> Result<Standard, NoMemory>
-    requires variables { variables ≤ 6 }
+    requires variables { variables ≤ MAX_VARIABLES }
     requires reduced { Reduced prime variables (terms_of basis.now) }
     requires limit { IsInReach (terms_of basis.now) limit }
 
@@ -201,7 +202,7 @@ pub fn dimension_modulo(
     basis: &[Poly],
     limit: u32,
 ) -> Result<Dimension, NoMemory>
-    requires variables { variables ≤ 6 }
+    requires variables { variables ≤ MAX_VARIABLES }
     requires reduced { Reduced prime variables (terms_of basis.now) }
     requires limit { IsInReach (terms_of basis.now) limit }
     ensures finite { IfOk result (λ answer. (N : ℕ) → (answer ≡ Dimension.Finite N) ↔ ((N ≤ limit) × HasDim prime variables (terms_of basis.now) N)) }

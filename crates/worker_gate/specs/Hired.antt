@@ -16,7 +16,7 @@ abbrev pub AreRooms : ℕ → List (Vec Report Global) → Type 0
 AreRooms size rooms = All (λ room. (room.items ≡ []) × (size ≤ vec_capacity room)) rooms
 
 -- a worker that may begin
-pub record IsReady (table : RaceTable) (worker : Worker) : Type 0 where
+pub record MayBegin (table : RaceTable) (worker : Worker) : Type 0 where
   pub belongs : BelongsTo table worker.pass
   pub blank : IsBlank (view_of worker.pass)
   pub empty : worker.reports.items ≡ []
@@ -33,7 +33,7 @@ pub record HasNumber (seats k : ℕ) (v : View) : Type 0 where
   pub parts : v.parts ≡ 1
 
 abbrev pub AreHired : RaceTable → ℕ → List Worker → Type 0
-AreHired table seats crew = (k : ℕ) (d : Worker) → k < length crew → IsReady table (slice_index_or crew k d) × HasNumber seats k (view_of (slice_index_or crew k d).pass)
+AreHired table seats crew = (k : ℕ) (d : Worker) → k < length crew → MayBegin table (slice_index_or crew k d) × HasNumber seats k (view_of (slice_index_or crew k d).pass)
 
 abbrev pub AreDone : (ℕ → ℕ → JobStop → Type 0) → Type 0 → RaceTable → List Worker → List Worker → Type 0
 AreDone stops strange table before later = (k : ℕ) (d : Worker) → k < length before → IsDone stops strange table (view_of (slice_index_or before k d).pass) (slice_index_or later k d)

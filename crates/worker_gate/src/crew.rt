@@ -4,7 +4,7 @@ ghost use Rattle.race_table.specs.Views.{HasAll};
 ghost use Rattle.race_table.specs.Passes.{view_of, strata_of, BelongsTo};
 ghost use Rattle.worker_gate.specs.Crews.{IsBlank, Raced, UnwonGaveUp};
 ghost use Rattle.worker_gate.specs.declared.member.Worker.{Worker};
-ghost use Rattle.worker_gate.specs.Hired.{AreRooms, AreHired, AreDone, AreBack, IsReady, IsDone};
+ghost use Rattle.worker_gate.specs.Hired.{AreRooms, AreHired, AreDone, AreBack, MayBegin, IsDone};
 
 use crate::gate::Gate;
 use crate::member::Worker;
@@ -61,7 +61,7 @@ where
     <J::Job as Job>::Done: Send,
     requires strata { J.strata jobs.now ≡ strata_of table.now }
     requires some { 0 < length crew.old }
-    requires crew { (k : ℕ) (d : Worker) → k < length crew.old → IsReady table.now (slice_index_or crew.old k d) }
+    requires crew { (k : ℕ) (d : Worker) → k < length crew.old → MayBegin table.now (slice_index_or crew.old k d) }
     ensures { AreDone (J.may_stop jobs.now) B.may_be_strange table.now crew.old crew.new }
 {
     let count = crew.len();
@@ -70,7 +70,7 @@ where
         crew,
         count,
         &|_, worker: &mut Worker|
-            requires { IsReady table.now worker.now × (J.strata jobs.now ≡ strata_of table.now) }
+            requires { MayBegin table.now worker.now × (J.strata jobs.now ≡ strata_of table.now) }
             ensures { IsDone (J.may_stop jobs.entry.now) B.may_be_strange table.entry.now (view_of worker.entry.now.pass) worker.exit.now }
         {
             work(

@@ -3,7 +3,7 @@ use Rattle.std.proofs.lemmas.Fn.{always_returns_same}
 use Rattle.std.specs.List.{insert}
 use Rattle.monomials.specs.Mono.{cmp_dp}
 use Rattle.standard_monomials.specs.Standard.{IsRising}
-use Rattle.standard_monomials.specs.Finding.{Gains}
+use Rattle.standard_monomials.specs.Finding.{GainsMonomial}
 use Rattle.standard_monomials.proofs.Rising.{searchable, gains_insert, gains_none}
 use Rattle.standard_monomials.proofs.finding.insert.Goals as goal
 
@@ -15,12 +15,12 @@ returns-in_ok-insert c =
     let rising = subst IsRising (sym c.as_slice.ensures.value) c.requires in
     let order = c.in-Err.ensures.position (λ y. cmp_dp y m) (always_returns_same _ _ _ (λ a r f' k. search rules)) in
     let g = gains_insert found i m c.in-Err.ensures.bound (order (searchable found m rising)) rising in
-    subst (Gains m c.args.found.now.items) (sym c.in_ok-insert.ensures.items) (subst (λ ms. Gains m ms (insert ms i m)) c.as_slice.ensures.value g)
+    subst (GainsMonomial m c.args.found.now.items) (sym c.in_ok-insert.ensures.items) (subst (λ ms. GainsMonomial m ms (insert ms i m)) c.as_slice.ensures.value g)
 
 pub returns-in_default : goal.returns-in_default
 returns-in_default c =
     let found = c.as_slice.result.now in
     let m = c.args.m in
     let h = c.in_default.ensures.position (λ y. cmp_dp y m) (always_returns_same _ _ _ (λ a r f' k. search rules)) in
-    subst (λ ms. Gains m ms ms) c.as_slice.ensures.value
+    subst (λ ms. GainsMonomial m ms ms) c.as_slice.ensures.value
     (gains_none found c.in_default.field-0 m c.in_default.ensures.bound h (subst IsRising (sym c.as_slice.ensures.value) c.requires))

@@ -6,7 +6,7 @@ use Rattle.race_table.specs.Views.{back}
 use Rattle.race_table.specs.Passes.{view_of, strata_of}
 use Rattle.race_table.specs.declared.view.View.{View}
 use Rattle.worker_gate.specs.Crews.{IsBlank}
-use Rattle.worker_gate.specs.Hired.{IsReady, HasNumber}
+use Rattle.worker_gate.specs.Hired.{MayBegin, HasNumber}
 use Rattle.worker_gate.specs.declared.report.Report.{Report}
 use Rattle.worker_gate.specs.declared.member.Worker.{Worker}
 use Rattle.worker_gate.proofs.Places.{each-push, blank-front, blank-back}
@@ -27,7 +27,7 @@ loop-reports-preserved c =
       first = omega (arith, old.first, old.parts, old.all, c.requires.blank.1.1, c.requires.rooms.1);
       parts = refl;
     } in
-    let ready : IsReady table worker = record {
+    let ready : MayBegin table worker = record {
       belongs = c.split-own.ensures.tables.1;
       blank = subst IsBlank (sym c.split-own.ensures.new) (blank-back v);
       empty = rooms.1.0;
@@ -41,7 +41,7 @@ loop-reports-preserved c =
       rooms = rooms.0;
       places = omega (arith, old.places, c.push_reserved.ensures.capacity);
       all = omega (arith, old.all);
-      hired = subst (λ (xs : List Worker). (k : ℕ) (d : Worker) → k < length xs → IsReady table (get_or xs k d) × HasNumber seats k (view_of (get_or xs k d).pass)) (sym c.push_reserved.ensures.items)
-          (each-push (λ k w. IsReady table w × HasNumber seats k (view_of w.pass)) c.loop-reports.crew.items worker old.hired
+      hired = subst (λ (xs : List Worker). (k : ℕ) (d : Worker) → k < length xs → MayBegin table (get_or xs k d) × HasNumber seats k (view_of (get_or xs k d).pass)) (sym c.push_reserved.ensures.items)
+          (each-push (λ k w. MayBegin table w × HasNumber seats k (view_of w.pass)) c.loop-reports.crew.items worker old.hired
           (ready, subst (HasNumber seats (length c.loop-reports.crew.items)) (sym c.split-own.ensures.new) number));
     }

@@ -3,7 +3,7 @@ use Rattle.prime_field.specs.Primes.{IsPrime}
 use Rattle.polys.specs.declared.term.Term.{Term}
 use Rattle.polys.specs.Poly.{Polynomial, terms_of}
 use Rattle.polys.specs.Terms.{EachMono}
-use Rattle.graded_modules.specs.Vector.{IsGradedVector, HasDegree}
+use Rattle.graded_modules.specs.Vector.{IsGradedVector, IsOfDegree}
 use Rattle.graded_modules.specs.Module.{IsLeadMultiple}
 use Rattle.graded_modules.specs.Bases.{IsNormalForm}
 use Rattle.module_basis.specs.declared.gens.Gens.{Gens}
@@ -48,4 +48,4 @@ returns-clause-degree c =
     let x = normal_at c.args.self.now b e c.self.invariant (subst IsPrime c.get-prime.ensures.value c.get-prime.ensures.prime) v rest c.requires.vector
     (subst (λ xs. Reduces b.prime (terms_of xs) v rest) c.deref.ensures.value (subst (λ y. Reduces b.prime (terms_of c.deref.result.now) y rest) from c.in_ok-rest.ensures.reduces))
     c.in_ok-rest.ensures.known (subst (λ xs. EachMono (λ m. IsLeadMultiple (terms_of xs) m → ⊥) rest) c.deref.ensures.value c.in_ok-rest.ensures.outside) in
-    subst (λ (r : List Term). (e : ℕ) → HasDegree c.args.self.now.shift e v → HasDegree c.args.self.now.shift e r) (sym out) x.2
+    subst (λ (r : List Term). (e : ℕ) → IsOfDegree c.args.self.now.shift e v → IsOfDegree c.args.self.now.shift e r) (sym out) x.2

@@ -1,0 +1,9 @@
+-- the chain of rings of local fractions
+pub mod ChainLaws
+-- fractions over one power of d
+pub mod OneExponent
+-- the steps of a chain of rings of local fractions, and of a sum of parts
+pub mod StepLaws
+-- for this crate alone
+mod FewerLaws
+mod ClosureBound

@@ -1,0 +1,10 @@
+-- The rings of polynomials of the program, as plain data.
+use Rattle.std.specs.Prelude.{ℕ}
+
+-- the polynomials in the first so many variables over a prime field
+pub record RingData : Type 0 where
+  pub prime : ℕ
+  pub variables : ℕ
+
+abbrev pub ring_of : ℕ → ℕ → RingData
+ring_of p n = record { prime = p; variables = n }
