@@ -36,7 +36,7 @@ use Rattle.standard_monomials.proofs.Finite.{Sifted, sift, box, in_box, affine_o
 use Rattle.standard_monomials.proofs.Lists.{contains_map}
 use Rattle.standard_monomials.proofs.Space as Space
 use Rattle.standard_monomials.proofs.Sums.{sum_of, sum_within, monomial_poly, monomial_polys, taken_apart, spread}
-use Rattle.ideal_laws.proofs.Members.{lift, length-lift}
+use Rattle.ideal_laws.proofs.Members.{lift}
 
 -- ---- the smaller monomials
 

@@ -1,5 +1,5 @@
 -- Ideals of finite dimension have corners and reduced bases (Greuel and Pfister, section on standard bases).
-use Rattle.std.specs.Prelude.{◌≡◌, ℕ, ◌≤◌, List, All}
+use Rattle.std.specs.Prelude.{ℕ, ◌≤◌, List, All}
 use Rattle.monomials.specs.Mono.{Monomial}
 use Rattle.prime_field.specs.Primes.{IsPrime}
 use Rattle.polys.specs.declared.term.Term.{Term}

@@ -18,8 +18,7 @@ use Rattle.fraction_laws.proofs.Basic.{gen_resp, gen_module, gen_one}
 use Rattle.fraction_laws.proofs.Independence as Independence
 use Rattle.polys.specs.declared.term.Term.{Term}
 use Rattle.polys.specs.Terms.{IsPoly, one}
-use Rattle.polys.specs.Poly.{Polynomial}
-use Rattle.polys.specs.Curve.{CurveData, IsOver}
+use Rattle.polys.specs.Curve.{CurveData}
 use Rattle.curve_model.specs.Fraction.{Fraction, IsFraction, AreEqual, InA, over, sum_of, product_of, multiple_of}
 use Rattle.curve_model.specs.Local.{Local}
 use Rattle.curve_model.specs.Point.{IsPoint}
@@ -28,7 +27,7 @@ use Rattle.curve_model.specs.Delta as Delta
 use Rattle.curve_model.specs.Laws.{IsFinite, ArePolys, SumOfParts, total, power_of}
 use Rattle.curve_model.specs.Rings.{IsFractionRing, IsProduct, no_product, one_more, InRadical, KeepsRadical}
 use Rattle.curve_model.specs.Enlarging.{IsLocalRing, IsBasisModuloA, difference_of}
-use Rattle.curve_model.specs.Steps.{FitIsFinite, LiesWithin, AreOneModule, DependsOnFractions, LocalRingIsItsModule, RadicalHolds, RadicalsHoldPoints, EnlargedIsLocalRing, RingsAreLocal, DimensionsDecide, EqualDimensionsAreEqual, IsSumOfTwo, SumsGrow}
+use Rattle.curve_model.specs.Steps.{LiesWithin, AreOneModule, DependsOnFractions, LocalRingIsItsModule, RadicalHolds, RadicalsHoldPoints, EnlargedIsLocalRing, RingsAreLocal, DimensionsDecide, EqualDimensionsAreEqual, IsSumOfTwo, SumsGrow}
 use Rattle.ideal_laws.proofs.Members.{lift, terms-lift}
 use Rattle.curve_laws.proofs.Facts.{contains_member}
 use Rattle.curve_laws.proofs.Chains.{mul_both}

@@ -1,9 +1,9 @@
 -- The p-th power of a sum over a commutative ring in which p is 0, and of a residue modulo p, for each characteristic p up to 47.
-use Rattle.std.proofs.Common.{◌≡◌, ℕ, zero, suc, ◌+◌, ◌*◌, ◌%◌, ◌/◌, ◌<◌, ◌≤◌, ◌==◌, ◌&&◌, Bool, true, false, List, [], ◌∷◌, map, length, refl, sym, ap, ◌∙◌, subst, arith}
+use Rattle.std.proofs.Common.{◌≡◌, ℕ, zero, suc, ◌+◌, ◌*◌, ◌%◌, ◌/◌, ◌<◌, ◌≤◌, ◌==◌, ◌&&◌, Bool, true, false, List, [], ◌∷◌, length, refl, sym, ap, subst, arith}
 use Rattle.std.proofs.lemmas.Bool.Decides.{nat_tests}
 use Rattle.prime_field.specs.Primes.{is_among, IsCharacteristic}
 use Rattle.comm_ring.specs.Ring.{CommRing, pow, number}
-use Rattle.comm_ring.proofs.Derived.{number-add, number-mul, number-zero, pow_same}
+use Rattle.comm_ring.proofs.Derived.{number-add, number-mul, pow_same}
 use Rattle.comm_ring.proofs.Quote.{ring, quote}
 
 -- the characteristics up to 47

@@ -1,7 +1,6 @@
 -- A fit curve has a regular denominator and a finite dimension modulo it.
 use Rattle.std.proofs.Common.{ℕ, List, [], ◌∷◌, map, All}
 use Rattle.std.proofs.lemmas.List.Elements.{All-nil, All-cons, All-head, All-tail}
-use Rattle.polys.specs.declared.term.Term.{Term}
 use Rattle.polys.specs.Terms.{IsPoly}
 use Rattle.polys.specs.Poly.{Polynomial}
 use Rattle.polys.specs.Curve.{IsOver}

@@ -1,5 +1,5 @@
 -- The members of the module of a denominator, as pairs.
-use Rattle.std.proofs.Common.{◌≡◌, ℕ, ◌+◌, ◌*◌, ◌<◌, zero, suc, List, [], ◌∷◌, ◌++◌, length, replicate, refl, sym, ap, ◌∙◌, subst, arith}
+use Rattle.std.proofs.Common.{◌≡◌, ℕ, ◌+◌, ◌*◌, ◌<◌, List, [], ◌∷◌, ◌++◌, length, replicate, refl, sym, ap, ◌∙◌, subst, arith}
 use Rattle.std.specs.declared.cmp.Ordering.TheVariants.{Greater}
 use Rattle.std.specs.Ordering.{nat_cmp}
 use Rattle.std.proofs.lemmas.List.{append-nil}
@@ -9,7 +9,7 @@ use Rattle.monomials.specs.Mono.{Monomial, total_degree, times, cmp_dp}
 use Rattle.monomials.proofs.Exponents.{plus_zeros}
 use Rattle.monomials.proofs.Last.{by_component}
 use Rattle.polys.specs.declared.term.Term.{Term}
-use Rattle.polys.specs.Terms.{EachMono, IsCanonical, IsPoly, OnlyFirst, Under, normal, one, add, sub, mul, products, degree_of}
+use Rattle.polys.specs.Terms.{EachMono, IsCanonical, IsPoly, Under, normal, one, add, sub, mul, products, degree_of}
 use Rattle.polys.specs.Poly.{IsPlain}
 use Rattle.polys.specs.Ideal.{combination}
 use Rattle.prime_field.proofs.Table.{positive_of_prime, above_one}

@@ -9,7 +9,6 @@ use Rattle.fraction_laws.specs.Laws.{EqualFractionsAgree, OnePowerServes, Fracti
 use Rattle.fraction_laws.proofs.Settings.{Setting, gr, Digits}
 use Rattle.fraction_laws.proofs.Scalars.{Scalars, Dim}
 use Rattle.fraction_laws.proofs.Forms as Forms
-use Rattle.fraction_laws.proofs.Forms.{fraction_ground}
 use Rattle.fraction_laws.proofs.FractionRing.{plus, times}
 use Rattle.fraction_laws.proofs.WrittenOut.{Finite, Gens, setting, digits, integral_of_equal, local_of_equal, local_up, local_down, integral_up, integral_down}
 use Rattle.fraction_laws.proofs.Coordinates.{finite}

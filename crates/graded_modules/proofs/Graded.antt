@@ -1,5 +1,5 @@
 -- Sums and products of vectors are vectors.
-use Rattle.std.proofs.Common.{◌≡◌, ℕ, ◌+◌, ◌-◌, ◌<◌, ◌≤◌, zero, suc, List, [], ◌∷◌, ◌++◌, take, replicate, refl, arith}
+use Rattle.std.proofs.Common.{◌≡◌, ℕ, ◌+◌, ◌-◌, ◌<◌, ◌≤◌, zero, suc, List, [], ◌∷◌, ◌++◌, take, refl, arith}
 use Rattle.monomials.specs.Mono.{Monomial, pointwise, times, unit}
 use Rattle.monomials.proofs.Exponents.{length-pointwise, total_degree-plus}
 use Rattle.polys.specs.declared.term.Term.{Term}

@@ -1,9 +1,6 @@
 -- The exponents of a monomial of the program as those of the six variables and the homogenising one.
-use Rattle.std.proofs.Common.{◌≡◌, ℕ, ◌+◌, ◌≤◌, zero, suc, List, [], ◌∷◌, ◌++◌, length, take, set, refl, ◌∙◌, arith}
-use Rattle.std.specs.declared.cmp.Ordering.{Ordering}
-use Rattle.std.specs.declared.cmp.Ordering.TheVariants.{Less, Equal, Greater}
-use Rattle.std.specs.Ordering.{ordering_then, nat_cmp}
-use Rattle.monomials.specs.Mono.{total_degree, pointwise, cmp_last}
+use Rattle.std.proofs.Common.{◌≡◌, ℕ, ◌+◌, ◌≤◌, zero, suc, List, [], ◌∷◌, ◌++◌, length, take, set, refl, arith}
+use Rattle.monomials.specs.Mono.{pointwise}
 use Rattle.polys.specs.Terms.{OnlyFirst}
 
 pub split_last : (k : ℕ) (e : List ℕ) → length e ≡ suc k → (a : List ℕ) × (y : ℕ) × (length a ≡ k) × (e ≡ a ++ y ∷ [])

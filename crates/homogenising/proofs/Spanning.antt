@@ -3,7 +3,7 @@ use Rattle.std.proofs.Common.{◌≤◌, ◌≡◌, ◌↔◌, ℕ, ◌+◌, ◌
 use Rattle.std.specs.declared.cmp.Ordering.TheVariants.{Less, Greater}
 use Rattle.std.specs.List.{All, AllPairs, Contains}
 use Rattle.std.proofs.lemmas.List.Elements.{All-nil, All-cons, All-head, All-tail, All-contains}
-use native.Mathlib.Nat.{mul-add-mod_self_left, mod-eq_of_lt}
+use native.Mathlib.Nat.{mod-eq_of_lt}
 use Rattle.monomials.specs.Mono.{Monomial, pointwise, times, Divides, cmp_dp, total_degree}
 use Rattle.monomials.proofs.Exponents.{total_degree-plus}
 use Rattle.monomials.proofs.Factors.{divides_law, divides_trans, divides_both}
@@ -11,18 +11,16 @@ use Rattle.monomials.proofs.Order.{times_comm, turn_down}
 use Rattle.prime_field.specs.Primes.{IsPrime}
 use Rattle.prime_field.proofs.Table.{positive_of_prime, above_one}
 use Rattle.polys.specs.declared.term.Term.{Term}
-use Rattle.polys.specs.Terms.{EachMono, IsAffine, IsCanonical, IsPoly, IsMonic, OnlyFirst, add, sub, mul, multiple, scaled, degree_of}
+use Rattle.polys.specs.Terms.{EachMono, IsAffine, IsCanonical, IsPoly, IsMonic, OnlyFirst, add, sub, mul, multiple, degree_of}
 use Rattle.polys.specs.Ideal.{InIdeal, combination}
 use Rattle.polys.specs.Reduced.{leads, lower_monos, IsLead, IsMinimalLead, IsReducedBasis}
 use Rattle.polys.proofs.Affine.{poly_sub, poly_mul, sevens_of}
 use Rattle.polys.proofs.Each.{every_more, every_normal, every_append, every_multiple}
 use Rattle.ideal_laws.proofs.Unique.{contains_head}
-use Rattle.ideal_laws.proofs.Differences.{sub_cons, sub_add, add_sub, less_difference}
+use Rattle.ideal_laws.proofs.Differences.{sub_cons, sub_add, less_difference}
 use Rattle.ideal_laws.proofs.Ideals.{in_none, in_add, in_sub, in_mul, in_poly, in_generator}
 use Rattle.polys.proofs.Leads.{lead_of_mul, every_low}
-use Rattle.polys.proofs.Sums.{add_assoc, add_comm}
-use Rattle.polys.proofs.Units.{weigh-scaled, sub_self, add_none}
-use Rattle.polys.proofs.Weights.{canon, weigh, weigh-append, weigh-normal, normal_ext, mod_plus}
+use Rattle.polys.proofs.Weights.{canon}
 use Rattle.graded_modules.specs.Vector.{lead_mono}
 use Rattle.graded_modules.specs.Module.{IsLeadMultiple}
 use Rattle.graded_modules.specs.Bases.{AreApart}

@@ -3,12 +3,12 @@ use Rattle.std.proofs.Common.{◌≡◌, ℕ, ◌+◌, ◌-◌, ◌≤◌, ◌<�
 use Rattle.monomials.specs.Mono.{Monomial, IsMono, total_degree}
 use Rattle.monomials.proofs.Exponents.{total_degree-set}
 use Rattle.polys.specs.declared.term.Term.{Term}
-use Rattle.polys.specs.Poly.{IsVector, IsPlain}
+use Rattle.polys.specs.Poly.{IsVector}
 use Rattle.polys.specs.Terms.{EachMono, IsAffine, IsPoly, degree_of}
 use Rattle.polys.proofs.Each.{every_more, every_zip}
 use Rattle.polys.proofs.Merge.{mono_at}
 use Rattle.polys.proofs.Products.{degree_at}
-use Rattle.homogenising.specs.Homogenised.{with_hom, homogenised_to, without_hom, IsUnlifted}
+use Rattle.homogenising.specs.Homogenised.{homogenised_to, without_hom, IsUnlifted}
 use Rattle.homogenising.specs.Laws.{IsHomogeneousPoly}
 use Rattle.homogenising.proofs.Images.{every_image}
 use Rattle.homogenising.proofs.Lifted.{Fits, fits, lifted, IsLevel, levels, lowered_canonical}

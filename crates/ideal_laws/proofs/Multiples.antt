@@ -1,7 +1,6 @@
 -- Multiples by numbers, and products with one term.
-use Rattle.std.proofs.Common.{◌≡◌, ℕ, ◌+◌, ◌*◌, ◌%◌, ◌<◌, List, [], ◌∷◌, ◌++◌, map, refl, sym, ap, ◌∙◌, arith}
+use Rattle.std.proofs.Common.{◌≡◌, ℕ, ◌+◌, ◌*◌, ◌%◌, List, [], ◌∷◌, ◌++◌, sym, ap, ◌∙◌, arith}
 use native.Mathlib.Nat.{mod-mod}
-use Rattle.std.proofs.lemmas.Nat.{mul-mod}
 use Rattle.monomials.specs.Mono.{Monomial, times, unit}
 use Rattle.polys.specs.declared.term.Term.{Term}
 use Rattle.polys.specs.Terms.{EachMono, normal, add, scaled, multiple, products, mul}

@@ -1,5 +1,5 @@
 -- Two reduced lists that generate one ideal are equal.
-use Rattle.std.proofs.Common.{◌≡◌, ◌↔◌, ◌⊎◌, inl, inr, ℕ, ◌+◌, ◌-◌, ◌*◌, ◌%◌, ◌<◌, zero, suc, List, [], ◌∷◌, ◌++◌, length, map, refl, sym, ap, ◌∙◌, subst, arith}
+use Rattle.std.proofs.Common.{◌≡◌, ◌↔◌, ◌⊎◌, inl, inr, ℕ, ◌+◌, ◌-◌, ◌<◌, zero, suc, List, [], ◌∷◌, ◌++◌, length, map, refl, sym, ap, ◌∙◌, subst, arith}
 use Rattle.std.specs.List.{All, AllPairs, Contains}
 use Rattle.std.proofs.lemmas.List.Elements.{All-head, All-tail, All-contains}
 use Rattle.std.specs.declared.cmp.Ordering.TheVariants.{Less, Equal}
@@ -8,7 +8,7 @@ use Rattle.monomials.proofs.Order.{self_dp, dp_total}
 use Rattle.prime_field.specs.Primes.{IsPrime}
 use Rattle.prime_field.proofs.Table.{positive_of_prime, above_one}
 use Rattle.polys.specs.declared.term.Term.{Term}
-use Rattle.polys.specs.Terms.{EachMono, IsPoly, IsMonic, sub, add, scaled, multiple}
+use Rattle.polys.specs.Terms.{EachMono, IsPoly, IsMonic, sub, add, multiple}
 use Rattle.polys.specs.Ideal.{InIdeal}
 use Rattle.polys.specs.Reduced.{Reduced, leads, lower_monos, IsLead}
 use Rattle.ideal_laws.specs.Laws.{ReducedIsUnique}

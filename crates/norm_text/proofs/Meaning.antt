@@ -1,11 +1,9 @@
 -- What an answer says of fractions.
 use Rattle.std.proofs.Common.{◌≡◌, ◌≢◌, ℕ, ◌<◌, List, [], ◌∷◌, map, length, slice_index_or, refl, sym, ap, ◌∙◌, subst, inl, arith}
 use Rattle.std.specs.List.{All, Contains, AllPairs}
-use Rattle.std.specs.Ordering.{nat_cmp, ordering_then}
+use Rattle.std.specs.Ordering.{nat_cmp}
 use Rattle.std.specs.Cmp.Lexicographic.{slice_cmp}
-use Rattle.std.specs.declared.cmp.Ordering.{Ordering}
 use Rattle.std.specs.declared.cmp.Ordering.TheVariants.{Less, Equal}
-use Rattle.std.specs.Cmp.{nat_cmp_is}
 use Rattle.std.proofs.lemmas.List.{get_or-map, length-map}
 use Rattle.std.proofs.lemmas.List.Elements.{All-weaker, All-contains_itself}
 use Rattle.monomials.proofs.Last.{level}
@@ -19,7 +17,7 @@ use Rattle.curve_points.specs.Points.{AreThePoints}
 use Rattle.curve_points.proofs.Points.{closure_points_law, integral_points_law}
 use Rattle.poly_text.specs.PolyText.{list_text}
 use Rattle.problem.specs.Problem.{ProblemData, curve_of}
-use Rattle.norm_text.specs.Named.{IsNamed, IsNamedList}
+use Rattle.norm_text.specs.Named.{IsNamedList}
 use Rattle.norm_text.specs.Answer.{AnswerData}
 use Rattle.norm_text.specs.Answers.{IsAnswer}
 use Rattle.norm_text.specs.Meaning.{ModulesAreIntegral, ModulesAreLocal, PowersAreLeast}

@@ -1,14 +1,14 @@
 -- An `at` statement that names the origin of the cusp, and one that does not.
 use Rattle.std.proofs.Common.{◌≡◌, ℕ, ◌<◌, List, [], ◌∷◌, zero, suc, slice_index_or, refl, sym, subst, inr, ⊎_elim, arith}
-use Rattle.std.specs.List.{All, Any, Contains}
+use Rattle.std.specs.List.{All, Any}
 use Rattle.std.proofs.lemmas.List.Elements.{All-nil, All-cons, All-head, All-tail}
 use Rattle.polys.specs.declared.term.Term.{Term}
 use Rattle.polys.specs.Terms.{IsPoly, sub, one}
 use Rattle.polys.specs.Ideal.{InIdeal}
 use Rattle.ideal_laws.proofs.Ideals.{in_head, in_more, in_sub, in_poly}
-use Rattle.curve_model.specs.Examples.{term_of, cusp, origin}
+use Rattle.curve_model.specs.Examples.{term_of, origin}
 use Rattle.curve_model.proofs.OriginPoint.{origin_is_point}
-use Rattle.norm_text.specs.Examples.{cusp_at, AtNames, AtPassesBy}
+use Rattle.norm_text.specs.Examples.{AtNames, AtPassesBy}
 
 abbrev x : List Term
 x = term_of 1 1 0 ∷ []

@@ -17,7 +17,6 @@ use Rattle.fraction_laws.proofs.Settings.{Setting, gr, Digits}
 use Rattle.fraction_laws.proofs.Scalars.{Scalars, Dim}
 use Rattle.fraction_laws.proofs.Forms as Forms
 use Rattle.point_laws.proofs.PointForms as PointForms
-use Rattle.fraction_laws.proofs.Forms.{fraction_ground}
 use Rattle.fraction_laws.proofs.FractionRing.{plus, times}
 use Rattle.fraction_laws.proofs.WrittenOut.{em_whole, Finite, Gens, setting, digits, local_up, integral_down}
 use Rattle.point_laws.proofs.AllPoints.{sums_up, gens, members}

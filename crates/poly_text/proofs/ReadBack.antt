@@ -6,7 +6,7 @@ use Rattle.std.specs.List.{All, AllPairs, list_all}
 use Rattle.std.proofs.lemmas.Bool.Decides.{nat_tests}
 use Rattle.std.proofs.lemmas.Fmt.{decimal_by_steps}
 use Rattle.std.proofs.lemmas.List.Elements.{All-head, All-tail}
-use Rattle.prime_field.specs.Primes.{IsCharacteristic, characteristics}
+use Rattle.prime_field.specs.Primes.{characteristics}
 use Rattle.prime_field.specs.Primes as primes
 use Rattle.monomials.specs.Mono.{total_degree, unit}
 use Rattle.polys.specs.declared.term.Term.{Term}

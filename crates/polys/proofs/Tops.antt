@@ -1,22 +1,20 @@
 -- Tops of polynomials: what sums, products and cuts keep.
-use Rattle.std.proofs.Common.{false, ◌≡◌, ℕ, ◌+◌, ◌*◌, ◌%◌, ◌/◌, ◌<◌, ◌≤◌, zero, suc, List, [], ◌∷◌, ◌++◌, length, max, take, drop, refl, sym, ap, ◌∙◌, subst, arith, Option, None, Some, get_or, drop-cons, mul-le-mul_right, take-append-drop}
+use Rattle.std.proofs.Common.{false, ◌≡◌, ℕ, ◌+◌, ◌*◌, ◌%◌, ◌/◌, ◌<◌, ◌≤◌, zero, suc, List, [], ◌∷◌, ◌++◌, length, max, take, drop, refl, sym, ap, ◌∙◌, subst, arith, Option, None, Some, get_or, mul-le-mul_right, take-append-drop}
 use Rattle.std.specs.Option.{is_some}
 use Rattle.std.specs.declared.cmp.Ordering.{Ordering}
 use Rattle.std.specs.declared.cmp.Ordering.TheVariants.{Less, Equal, Greater}
-use Rattle.std.proofs.lemmas.Nat.{mul-mod}
-use Rattle.monomials.specs.Mono.{Monomial, IsMono, times, total_degree, cmp_dp}
+use Rattle.monomials.specs.Mono.{Monomial, times, total_degree, cmp_dp}
 use Rattle.monomials.proofs.Order.{same_dp, self_dp, cmp_dp-times, chain_up, turn_up, turn_down}
 use Rattle.polys.specs.declared.term.Term.{Term}
-use Rattle.polys.specs.Terms.{EachMono, Under, IsCanonical, normal, add, mul, products, scale, degree_of, power}
+use Rattle.polys.specs.Terms.{EachMono, IsCanonical, add, mul, products, degree_of}
 use Rattle.polys.specs.Frobenius.{raised, frobenius}
 use Rattle.polys.specs.Top.{Above, weight, Vanishes, Agrees, greater_by, higher, cut_times, cut_raised, cut_degree, IsCut}
 use Rattle.polys.proofs.Weights.{weigh, tie, same, Canon, canon, canon_ext, head_missing, at_head, mod_cancel, mod_plus, weigh-normal, weigh-append, mod_times}
-use Rattle.polys.proofs.Sums.{weigh-products}
 use Rattle.polys.proofs.Leads.{Seven, every_low}
-use Rattle.polys.proofs.Each.{every_more, every_drop}
+use Rattle.polys.proofs.Each.{every_more}
 use Rattle.polys.proofs.Merge.{left_at}
-use Rattle.polys.proofs.Products.{canonical_drop, degree_of-take}
-use Rattle.polys.proofs.Degrees.{degree_of-mul, degree_of-add}
+use Rattle.polys.proofs.Products.{canonical_drop}
+use Rattle.polys.proofs.Degrees.{degree_of-mul}
 use Rattle.monomials.proofs.Exponents.{total_degree-plus}
 use Rattle.polys.proofs.Units.{seven_times}
 use Rattle.polys.proofs.Raised.{seven_raised, raised_above, degree_raised}

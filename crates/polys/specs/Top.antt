@@ -7,7 +7,7 @@ use Rattle.polys.specs.declared.term.Term.{Term}
 use Rattle.polys.specs.declared.top.Top.{Top}
 use Rattle.polys.specs.declared.top.Told.{Told}
 use Rattle.polys.specs.declared.top.Told.TheVariants.{Whole, More, Open}
-use Rattle.polys.specs.Terms.{EachMono, degree_of}
+use Rattle.polys.specs.Terms.{degree_of}
 use Rattle.polys.specs.Frobenius.{raised}
 use Rattle.polys.specs.Poly.{IsVector}
 

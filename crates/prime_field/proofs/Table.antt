@@ -3,7 +3,7 @@ use Rattle.std.proofs.Common.{◌≡◌, ◌≢◌, ℕ, suc, zero, Bool, true, 
 use Rattle.std.proofs.lemmas.Bool.Decides.{nat_tests, Decides-below_and, Decides-not, Decides-eqb}
 use Rattle.std.specs.Bool.{Decides}
 use Rattle.std.specs.Prelude.{not, nat_le}
-use Rattle.prime_field.specs.Primes.{is_among, characteristics, IsCharacteristic, IsPrime, CharacteristicsArePrime}
+use Rattle.prime_field.specs.Primes.{is_among, characteristics, IsPrime, CharacteristicsArePrime}
 
 -- no number from 2 to n + 1 divides p
 unfoldable pub no_divisor : ℕ → ℕ → Bool

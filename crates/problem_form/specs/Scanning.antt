@@ -2,7 +2,7 @@
 use Rattle.std.specs.Prelude.{ℕ, ◌+◌, ◌-◌, ◌≤◌, ◌==◌, ◌&&◌, max, codes, if◌then◌else◌, Bool, true, false, List, [], ◌∷◌, Option, None, Some, option_and_then}
 use Rattle.problem_form.specs.Words.{is_name, class_of, digits_in, same_token}
 use Rattle.problem_form.specs.declared.words.Class.{Class}
-use Rattle.problem_form.specs.declared.words.Class.TheVariants.{Open, Close, Star, Plus, Minus, Comma, Semicolon, Number, Variable, Run, Other}
+use Rattle.problem_form.specs.declared.words.Class.TheVariants.{Open, Close, Star, Plus, Minus, Comma, Semicolon, Number, Variable, Run}
 use Rattle.problem_form.specs.declared.words.Class.TheVariants as class
 use Rattle.problem_form.specs.declared.scanning.Place.{Place}
 use Rattle.problem_form.specs.declared.scanning.Place.TheVariants.{Start, Operand, Base, Caret, Factor, Between, PolyName, PolyEquals}

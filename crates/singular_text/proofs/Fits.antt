@@ -10,7 +10,7 @@ use Rattle.singular_text.specs.declared.faults.ReadFault.TheVariants.{Limit}
 use Rattle.singular_text.specs.declared.faults.Which.TheVariants.{Size}
 use Rattle.prime_field.specs.Primes.{IsPrime}
 use Rattle.polys.specs.declared.term.Term.{Term}
-use Rattle.polys.specs.Terms.{IsPoly, IsAffine, EachMono, mul, add, sub, power, one, degree_of, keep, normal}
+use Rattle.polys.specs.Terms.{IsPoly, IsAffine, EachMono, mul, add, sub, power, degree_of, keep}
 use Rattle.polys.specs.Terms
 use Rattle.polys.specs.Poly.{Polynomial, IsPlain, sum_of, difference_of, product_of, power_of}
 use Rattle.polys.specs.Ring.{AreClosed}

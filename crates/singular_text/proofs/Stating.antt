@@ -1,24 +1,23 @@
 -- What a text of the grammar states is a problem.
-use Rattle.std.proofs.Common.{◌≡◌, ℕ, ◌<◌, ◌≤◌, ◌%◌, List, [], ◌∷◌, Bool, true, false, cond, length, refl, sym, ap, subst, arith, Option, Some, None, Result, Ok, Err}
-use Rattle.std.specs.Prelude.{map, nat_lt, not, IfSome, IfOk, ◌||◌}
-use Rattle.std.specs.List.{All, AllByRecursion, list_all}
+use Rattle.std.proofs.Common.{◌≡◌, ℕ, ◌<◌, ◌≤◌, ◌%◌, List, [], ◌∷◌, Bool, true, false, cond, length, refl, sym, subst, arith, Option, Some, None, Result, Ok, Err}
+use Rattle.std.specs.Prelude.{map, nat_lt, not, IfSome, IfOk}
+use Rattle.std.specs.List.{All, AllByRecursion}
 use Rattle.std.proofs.lemmas.List.Elements.{All-nil, All-cons}
 use Rattle.std.proofs.lemmas.Bool.Decides.{nat_tests}
-use Rattle.prime_field.specs.Primes.{characteristics, IsCharacteristic, IsPrime, CharacteristicsArePrime}
+use Rattle.prime_field.specs.Primes.{characteristics, IsPrime, CharacteristicsArePrime}
 use Rattle.prime_field.specs.Primes as primes
 use Rattle.polys.specs.declared.term.Term.{Term}
 use Rattle.polys.specs.Ring.{AreClosed, PolynomialsAreClosed}
 use Rattle.polys.specs.Terms.{IsPoly}
 use Rattle.problem.specs.declared.problem.Problem.{Problem}
-use Rattle.problem.specs.Problem.{ProblemData, IsProblem, problem_data}
+use Rattle.problem.specs.Problem.{IsProblem, problem_data}
 use Rattle.problem.proofs.Places.{place_within}
 use Rattle.singular_text.specs.declared.faults.ReadFault.{ReadFault}
-use Rattle.problem_form.specs.Words.{is_run}
-use Rattle.problem_form.specs.Expressions.{Expression, Letter, Number, Parentheses, Run, Power, Product, Signed, Sum, IsFormed, nesting, most_digits}
+use Rattle.problem_form.specs.Expressions.{Expression, Letter, Number, Parentheses, Run, Power, Product, Signed, Sum, IsFormed}
 use Rattle.poly_text.specs.Digits.{number}
 use Rattle.singular_text.specs.Values.{value, signed}
-use Rattle.problem_form.specs.ProblemText.{ProblemText, DenominatorText, IsTextOf, HasText, IsGrammatical, IsDenominator, AreExpressions, expressions, greatest}
-use Rattle.singular_text.specs.Meanings.{Answers, TextsStateProblems, denominator_value, has_small_values, first_fault, problem_of}
+use Rattle.problem_form.specs.ProblemText.{ProblemText, DenominatorText, IsTextOf, HasText, IsGrammatical, IsDenominator, AreExpressions}
+use Rattle.singular_text.specs.Meanings.{Answers, TextsStateProblems, denominator_value, first_fault}
 use Rattle.poly_text.proofs.VariablePowers.{affine_variable}
 use Rattle.singular_text.proofs.Runs.{affine_run, poly_term}
 use Rattle.polys.proofs.Affine.{affine_unit}

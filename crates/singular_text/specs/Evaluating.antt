@@ -1,7 +1,6 @@
 -- How expressions are evaluated: a step for each token, on what was read since each open parenthesis.
-use Rattle.std.specs.Prelude.{ℕ, ◌≡◌, ◌≤◌, ◌%◌, if◌then◌else◌, Bool, true, false, List, [], ◌∷◌, ◌++◌, Option, None, Some, IfSome, Result, Ok, Err}
+use Rattle.std.specs.Prelude.{ℕ, ◌≡◌, ◌%◌, if◌then◌else◌, Bool, true, false, List, [], ◌∷◌, ◌++◌, Option, None, Some, IfSome, Result, Ok, Err}
 use Rattle.monomials.specs.Mono.{unit, variable}
-use Rattle.polys.specs.Terms.{IsPoly, degree_of}
 use Rattle.polys.specs.Poly.{Polynomial, sum_of, difference_of, product_of, power_of}
 use Rattle.problem.specs.Letters.{place}
 use Rattle.problem.specs.Problem.{IsFit}

@@ -1,5 +1,5 @@
 -- The values of expressions: polynomials modulo p.
-use Rattle.std.specs.Prelude.{ℕ, ◌+◌, ◌*◌, ◌-◌, ◌%◌, ◌==◌, ◌&&◌, nat_le, length, if◌then◌else◌, Bool, true, false, List, [], ◌∷◌, ◌++◌}
+use Rattle.std.specs.Prelude.{ℕ, ◌+◌, ◌%◌, ◌&&◌, nat_le, length, if◌then◌else◌, Bool, true, false, List, [], ◌∷◌, ◌++◌}
 use Rattle.std.specs.Char.{is_ascii_digit}
 use Rattle.monomials.specs.Mono.{Monomial, unit, variable}
 use Rattle.polys.specs.declared.term.Term.{Term}

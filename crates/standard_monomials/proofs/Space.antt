@@ -1,25 +1,23 @@
 -- The polynomials modulo an ideal as a module over the residues.
-use Rattle.std.proofs.Common.{◌≡◌, ◌⊎◌, inl, inr, ℕ, suc, ◌+◌, ◌*◌, ◌%◌, ◌<◌, List, [], ◌∷◌, length, All, refl, sym, ap, ap₂, ◌∙◌, subst, mod-eq_of_lt}
+use Rattle.std.proofs.Common.{◌≡◌, ◌⊎◌, inl, inr, ℕ, List, [], ◌∷◌, All, refl, sym, ap, ap₂, ◌∙◌, subst, mod-eq_of_lt}
 use Rattle.std.specs.List.{Contains}
 use Rattle.std.proofs.lemmas.List.Elements.{All-head, All-tail}
 use Rattle.prime_field.specs.Primes.{IsPrime}
 use Rattle.comm_ring.specs.Ring.{CommRing, IsRingMap}
 use Rattle.comm_ring.specs.Residues.{residue_ops}
 use Rattle.comm_ring.specs.Modules.{IsSubmodule, combine, combination, InSpan, module_through}
-use Rattle.comm_ring.proofs.Residues.{residues, mod_ring, mod_quote}
+use Rattle.comm_ring.proofs.Residues.{residues}
 use Rattle.comm_ring.proofs.Modules.{Module, through}
 use Rattle.comm_ring.proofs.Quotients.{quotient, equal_modulo, modulo_origin}
 use Rattle.monomials.specs.Mono.{unit}
 use Rattle.polys.specs.declared.term.Term.{Term}
-use Rattle.polys.specs.Terms.{IsPoly, keep, add, sub, mul, products}
+use Rattle.polys.specs.Terms.{IsPoly, keep, add, sub, mul}
 use Rattle.polys.specs.Ideal.{InIdeal, number_combination, Spans}
 use Rattle.polys.specs.Ring.{Member}
 use Rattle.polys.proofs.Affine.{constant, poly_constant, mul_constant, sevens_of}
 use Rattle.ideal_laws.proofs.Ideals.{in_none, in_add, in_mul}
 use Rattle.polys.proofs.Instance.{polynomials}
-use Rattle.polys.proofs.Sums.{add_normal_left, add_normal_right, mul_normal_left, mul_normal_right}
 use Rattle.ideal_laws.proofs.Unique.{contains_head, contains_tail, contains_cases, contains_none}
-use Rattle.polys.proofs.Weights.{Alike, weigh, normal_ext}
 use Rattle.homogenising.proofs.Spanning.{pos, two}
 use Rattle.ideal_laws.proofs.Constants.{constant_sum, constant_product}
 use Rattle.ideal_laws.proofs.Members.{lift, length-lift}

@@ -1,8 +1,7 @@
-use Rattle.std.proofs.Common.{sym, ap, ◌∙◌, subst}
+use Rattle.std.proofs.Common.{sym, ap, ◌∙◌}
 use Rattle.homogenising.specs.Homogenised.{without_hom}
 use Rattle.homogenising.proofs.Lifted.{lowered}
 use Rattle.homogenising.proofs.Terms.{lowered_vector, vector_of}
-use Rattle.polys.specs.Poly.{IsVector}
 use Rattle.homogenising.proofs.lifting.dehomogenised.Goals as goal
 
 pub of_terms-requires : goal.of_terms-requires

@@ -1,4 +1,4 @@
-use Rattle.std.proofs.Common.{◌≡◌, ◌<◌, length, get_or, arith, subst, sym, refl, rules, ◌∙◌}
+use Rattle.std.proofs.Common.{◌≡◌, subst, sym, refl, rules, ◌∙◌}
 use Rattle.std.proofs.lemmas.List.{take_all}
 use Rattle.monomials.specs.Mono.{IsMono}
 use Rattle.polys.specs.Terms.{EachMono, IsAffine}

@@ -1,7 +1,6 @@
-use Rattle.std.proofs.Common.{◌≡◌, ◌+◌, ◌*◌, ◌/◌, ◌%◌, ◌<◌, ◌≤◌, None, arith, sym, ap, subst, ◌∙◌}
+use Rattle.std.proofs.Common.{◌≡◌, ◌+◌, ◌*◌, ◌/◌, ◌%◌, ◌<◌, ◌≤◌, arith, sym, ap, subst, ◌∙◌}
 use Rattle.prime_field.specs.Primes.{IsCharacteristic}
-use Rattle.polys.specs.Terms.{power, degree_of, one}
-use Rattle.polys.specs.Frobenius.{frobenius}
+use Rattle.polys.specs.Terms.{power, degree_of}
 use Rattle.polys.specs.Top.{Agrees, weight, reach}
 use Rattle.polys.proofs.Products.{sevens}
 use Rattle.polys.proofs.Frobenius.{power_by_digit}

@@ -1,4 +1,4 @@
-use Rattle.std.proofs.Common.{◌≡◌, ◌%◌, refl, ◌+◌, ◌-◌, ◌/◌, ◌≤◌, length, take, drop, arith, sym, ap, ◌∙◌, subst}
+use Rattle.std.proofs.Common.{◌%◌, refl, ◌+◌, ◌-◌, ◌/◌, ◌≤◌, length, take, drop, arith, sym, ap, ◌∙◌, subst}
 use Rattle.std.proofs.lemmas.List.{take_rest}
 use Rattle.std.proofs.Math.ListN.{length-take, length-drop}
 use Rattle.polys.specs.Terms.{EachMono, mul, degree_of}

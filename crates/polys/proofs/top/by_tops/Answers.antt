@@ -1,6 +1,5 @@
-use Rattle.std.proofs.Common.{◌≡◌, ◌+◌, ◌*◌, ◌<◌, ◌≤◌, length, arith, ap, subst, ◌∙◌}
-use Rattle.polys.specs.Terms.{power, degree_of, mul}
-use Rattle.polys.specs.Top.{Agrees}
+use Rattle.std.proofs.Common.{◌≤◌, length, arith}
+use Rattle.polys.specs.Terms.{power}
 use Rattle.polys.proofs.Frobenius.{canonical_power}
 use Rattle.polys.proofs.Tops.{none_of, top_shorter, top_whole}
 use Rattle.polys.proofs.top.by_tops.Goals as goal

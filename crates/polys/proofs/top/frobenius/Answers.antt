@@ -1,4 +1,4 @@
-use Rattle.std.proofs.Common.{◌≡◌, ◌+◌, ◌*◌, ◌≤◌, [], ◌∷◌, map, arith, sym, ap, subst, ◌∙◌, mul-le-mul_right}
+use Rattle.std.proofs.Common.{◌≡◌, ◌*◌, ◌≤◌, [], ◌∷◌, map, arith, sym, ap, subst, ◌∙◌, mul-le-mul_right}
 use Rattle.std.proofs.lemmas.List.{take_all}
 use Rattle.monomials.specs.Mono.{IsMono, total_degree}
 use Rattle.polys.specs.declared.term.Term.{Term}

@@ -1,4 +1,4 @@
-use Rattle.std.proofs.Common.{◌≡◌, ◌≤◌, ◌<◌, arith, sym, ap, subst, ◌∙◌}
+use Rattle.std.proofs.Common.{◌<◌, arith, sym, ap, subst, ◌∙◌}
 use Rattle.polys.specs.Terms.{degree_of}
 use Rattle.polys.specs.Frobenius.{frobenius}
 use Rattle.polys.specs.Top.{Agrees, cut_degree, cut_raised}
