@@ -5,6 +5,3 @@ use Rattle.std.specs.Prelude.{ℕ}
 pub record RingData : Type 0 where
   pub prime : ℕ
   pub variables : ℕ
-
-abbrev pub ring_of : ℕ → ℕ → RingData
-ring_of p n = record { prime = p; variables = n }
