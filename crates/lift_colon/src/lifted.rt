@@ -1,6 +1,6 @@
 // An ideal and a denominator with the bases that decide about them.
 ghost use Rattle.std.specs.Prelude.{◌≡◌, ℕ, ◌<◌, ◌≤◌, ◌↔◌, ◌∷◌, All, IfOk, IfErr, IsTrue, IsNone, IfSome};
-ghost use Rattle.monomials.specs.declared.mono.TheConstants.{MAX_DEGREE, MAX_VARIABLES};
+ghost use Rattle.monomials.specs.declared.mono.TheConstants.{MAX_VARIABLES, MAX_DEGREE};
 ghost use Rattle.lift_colon.specs.Lifted.{IsLifted, IsDeepWith, IsDimension, IsLift, HasDimension, HasInfiniteDimension};
 ghost use Rattle.polys.specs.declared.curve.TheConstants.{LARGEST_DIMENSION};
 ghost use Rattle.polys.specs.Poly.{terms_of};
@@ -21,8 +21,8 @@ use crate::parts::{colon_part, module_gens, sum_part};
 use denominator_module::{first_part, second_part};
 use homogenising::{dehomogenised, homogenised_to};
 use lists::{List, NoMemory};
-use module_basis::{BasisStop, Cap, Gens, GradedBasis, MAX_CAP, graded_basis, interreduced};
-use polys::{LARGEST_DIMENSION, Poly, Ring, are_same};
+use module_basis::{BasisStop, Gens, GradedBasis, MAX_CAP, graded_basis, interreduced};
+use polys::{LARGEST_DIMENSION, Poly, are_same};
 use prime_field::Prime;
 use standard_monomials::{Dimension, dimension_modulo};
 use std::alloc::Global;
@@ -87,48 +87,56 @@ pub fn ideal_basis(
 // The reduced basis of the module of a denominator.
 fn denominator_basis(
     alloc: Global,
-    ring: Ring,
+    prime: Prime,
+    variables: u32,
     ideal: &[Poly],
     d: &Poly,
-    cap: Cap,
+    cap: u32,
 ) -> Result<GradedBasis, BasisStop>
-    requires ideal { All (IsOver ring.prime ring.variables) ideal.now }
-    requires denominator { IsOver ring.prime ring.variables d.now }
+    requires prime { IsPrime prime }
+    requires some_variables { 1 ≤ variables }
+    requires six_variables { variables ≤ MAX_VARIABLES }
+    requires ideal { All (IsOver prime variables) ideal.now }
+    requires denominator { IsOver prime variables d.now }
     requires room { degree_of d.now.terms ≤ MAX_DEGREE }
-    ensures ring { IfOk result (λ b. (b.prime ≡ ring.prime) × (b.variables ≡ ring.variables) × (b.shift ≡ degree_of d.now.terms)) }
-    ensures span { IfOk result (λ b. SpanOneModule ring.prime ring.variables (module_of d.now.terms (terms_of ideal.now)) (terms_of b.vectors)) }
+    requires some_cap { 1 ≤ cap }
+    requires cap { cap ≤ MAX_CAP }
+    ensures ring { IfOk result (λ b. (b.prime ≡ prime) × (b.variables ≡ variables) × (b.shift ≡ degree_of d.now.terms)) }
+    ensures span { IfOk result (λ b. SpanOneModule prime variables (module_of d.now.terms (terms_of ideal.now)) (terms_of b.vectors)) }
     ensures low { IfOk result (λ b. All (λ f. degree_at (degree_of d.now.terms) (lead_mono f) ≤ cap) (terms_of b.vectors)) }
-    ensures not_deep { IfOk result (λ b. IsDeepDenominator ring.prime ring.variables d.now.terms (terms_of ideal.now) cap → ⊥) }
-    ensures deep { IfErr result (λ stop. stop ≡ Deep → IsDeepDenominator ring.prime ring.variables d.now.terms (terms_of ideal.now) cap) }
+    ensures not_deep { IfOk result (λ b. IsDeepDenominator prime variables d.now.terms (terms_of ideal.now) cap → ⊥) }
+    ensures deep { IfErr result (λ stop. stop ≡ Deep → IsDeepDenominator prime variables d.now.terms (terms_of ideal.now) cap) }
 {
-    let pairs = module_gens(alloc, ring, ideal, d)?;
-    graded_basis(alloc, &pairs, cap.get())
+    let pairs = module_gens(alloc, prime, variables, ideal, d)?;
+    graded_basis(alloc, &pairs, cap)
 }
 
 // The bases of the parts of the module.
 fn of_module(
     alloc: Global,
-    ring: Ring,
+    prime: Prime,
+    variables: u32,
     generators: &[Poly],
     d: &Poly,
     ideal: List<Poly>,
     graded: GradedBasis,
 ) -> Result<Lifted, NoMemory>
-    requires generators { All (IsOver ring.prime ring.variables) generators.now }
-    requires denominator { IsOver ring.prime ring.variables d.now }
-    requires over { All (IsOver ring.prime ring.variables) ideal }
-    requires ideal { IsReducedBasis ring.prime ring.variables (InIdeal ring.prime ring.variables (terms_of generators.now)) (terms_of ideal) }
-    requires ring { (graded.prime ≡ ring.prime) × (graded.variables ≡ ring.variables) × (graded.shift ≡ degree_of d.now.terms) }
-    requires span { SpanOneModule ring.prime ring.variables (module_of d.now.terms (terms_of generators.now)) (terms_of graded.vectors) }
+    requires prime { IsPrime prime }
+    requires some_variables { 1 ≤ variables }
+    requires six_variables { variables ≤ MAX_VARIABLES }
+    requires generators { All (IsOver prime variables) generators.now }
+    requires denominator { IsOver prime variables d.now }
+    requires over { All (IsOver prime variables) ideal }
+    requires ideal { IsReducedBasis prime variables (InIdeal prime variables (terms_of generators.now)) (terms_of ideal) }
+    requires ring { (graded.prime ≡ prime) × (graded.variables ≡ variables) × (graded.shift ≡ degree_of d.now.terms) }
+    requires span { SpanOneModule prime variables (module_of d.now.terms (terms_of generators.now)) (terms_of graded.vectors) }
     requires low { All (λ f. degree_at (degree_of d.now.terms) (lead_mono f) ≤ MAX_CAP) (terms_of graded.vectors) }
-    ensures data { IfOk result (λ l. (l.prime ≡ ring.prime) × (l.variables ≡ ring.variables) × (l.denominator ≡ d.now) × (l.ideal ≡ ideal)) }
+    ensures data { IfOk result (λ l. (l.prime ≡ prime) × (l.variables ≡ variables) × (l.denominator ≡ d.now) × (l.ideal ≡ ideal)) }
 {
-    let prime = ring.prime();
-    let variables = ring.variables();
     let vectors = graded.vectors();
-    let sums = sum_part(alloc, ring, vectors)?;
+    let sums = sum_part(alloc, prime, variables, vectors)?;
     let sum = interreduced(alloc, prime, variables, sums.as_slice())?;
-    let colons = colon_part(alloc, ring, vectors)?;
+    let colons = colon_part(alloc, prime, variables, vectors)?;
     let colon = interreduced(alloc, prime, variables, colons.as_slice())?;
     let dimension = dimension_modulo(alloc, prime, variables, sum.as_slice(), LARGEST_DIMENSION)?;
     Ok(Lifted {
@@ -200,9 +208,8 @@ impl Lifted {
     {
         let _prime = prime.get();
         let _terms = d.terms();
-        let ring = Ring::new(prime, variables);
-        let graded = denominator_basis(alloc, ring, generators, d, Cap::new(cap))?;
-        Ok(of_module(alloc, ring, generators, d, basis, graded)?)
+        let graded = denominator_basis(alloc, prime, variables, generators, d, cap)?;
+        Ok(of_module(alloc, prime, variables, generators, d, basis, graded)?)
     }
 
     /// The prime.

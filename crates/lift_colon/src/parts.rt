@@ -1,11 +1,12 @@
 // The module of a denominator, and the two parts of its basis.
 ghost use Rattle.std.specs.Prelude.{◌≡◌, ◌≤◌, ◌↔◌, ℕ, All, IfOk, IsTrue};
-ghost use Rattle.monomials.specs.declared.mono.TheConstants.{MAX_DEGREE};
+ghost use Rattle.monomials.specs.declared.mono.TheConstants.{MAX_VARIABLES, MAX_DEGREE};
 ghost use Rattle.denominator_module.specs.Module.{with_unit, module_of, sum_members, colon_members};
 ghost use Rattle.graded_modules.specs.Vector.{lead_mono};
 ghost use Rattle.module_basis.specs.Gens.{AreGens, IsHomogeneousOver};
 ghost use Rattle.polys.specs.Poly.{terms_of};
 ghost use Rattle.polys.specs.Curve.{IsOver};
+ghost use Rattle.prime_field.specs.Primes.{IsPrime};
 ghost use Rattle.polys.specs.Terms.{degree_of};
 
 use denominator_module::{first_part, second_part};
@@ -13,18 +14,20 @@ use homogenising::{dehomogenised, homogenised_to};
 use lists::{List, NoMemory};
 use module_basis::Gens;
 use monomials::Mono;
-use polys::{Poly, Ring, Term};
+use polys::{Poly, Term};
+use prime_field::Prime;
 use std::alloc::Global;
 
 // The vector (d, 1), homogenised: the second unit vector has the degree of d.
-fn unit_vector(alloc: Global, ring: Ring, d: &Poly) -> Result<Poly, NoMemory>
-    requires denominator { IsOver ring.prime ring.variables d.now }
+fn unit_vector(alloc: Global, prime: Prime, variables: u32, d: &Poly) -> Result<Poly, NoMemory>
+    requires prime { IsPrime prime }
+    requires variables { variables ≤ MAX_VARIABLES }
+    requires denominator { IsOver prime variables d.now }
     requires room { degree_of d.now.terms ≤ MAX_DEGREE }
-    ensures prime { IfOk result (λ v. v.prime ≡ ring.prime) }
+    ensures prime { IfOk result (λ v. v.prime ≡ prime) }
     ensures terms { IfOk result (λ v. v.terms ≡ with_unit d.now.terms) }
 {
-    let prime = ring.prime();
-    let mut terms = homogenised_to(alloc, ring.variables(), d.degree(), d)?.into_terms();
+    let mut terms = homogenised_to(alloc, variables, d.degree(), d)?.into_terms();
     terms.push(Term {
         coeff: 1,
         mono: Mono::one().with_component(1),
@@ -33,22 +36,29 @@ fn unit_vector(alloc: Global, ring: Ring, d: &Poly) -> Result<Poly, NoMemory>
 }
 
 /// The vectors (d, 1) and (g, 0) for each generator g of the ideal, homogenised.
-pub fn module_gens(alloc: Global, ring: Ring, ideal: &[Poly], d: &Poly) -> Result<Gens, NoMemory>
-    requires ideal { All (IsOver ring.prime ring.variables) ideal.now }
-    requires denominator { IsOver ring.prime ring.variables d.now }
+pub fn module_gens(
+    alloc: Global,
+    prime: Prime,
+    variables: u32,
+    ideal: &[Poly],
+    d: &Poly,
+) -> Result<Gens, NoMemory>
+    requires prime { IsPrime prime }
+    requires some_variables { 1 ≤ variables }
+    requires six_variables { variables ≤ MAX_VARIABLES }
+    requires ideal { All (IsOver prime variables) ideal.now }
+    requires denominator { IsOver prime variables d.now }
     requires room { degree_of d.now.terms ≤ MAX_DEGREE }
-    ensures prime { IfOk result (λ gens. gens.prime ≡ ring.prime) }
-    ensures variables { IfOk result (λ gens. gens.variables ≡ ring.variables) }
+    ensures prime { IfOk result (λ gens. gens.prime ≡ prime) }
+    ensures variables { IfOk result (λ gens. gens.variables ≡ variables) }
     ensures shift { IfOk result (λ gens. gens.shift ≡ degree_of d.now.terms) }
     ensures vectors { IfOk result (λ gens. terms_of gens.vectors ≡ module_of d.now.terms (terms_of ideal.now)) }
     ensures gens { IfOk result (λ gens. AreGens gens) }
 {
-    let prime = ring.prime();
-    let variables = ring.variables();
     let gens = Gens::homogenised(alloc, prime, variables, ideal)?;
     let mut others = gens.vectors;
     let mut vectors = List::new(alloc);
-    vectors.push(unit_vector(alloc, ring, d)?)?;
+    vectors.push(unit_vector(alloc, prime, variables, d)?)?;
     vectors.append(&mut others)?;
     Ok(Gens {
         prime,
@@ -59,12 +69,18 @@ pub fn module_gens(alloc: Global, ring: Ring, ideal: &[Poly], d: &Poly) -> Resul
 }
 
 /// The first parts of the vectors whose leads lie there, where the homogenising variable is 1.
-pub fn sum_part(alloc: Global, ring: Ring, vectors: &[Poly]) -> Result<List<Poly>, NoMemory>
-    requires vectors { (shift : ℕ) × All (IsHomogeneousOver ring.prime ring.variables shift) vectors.now }
-    ensures primes { IfOk result (λ v. All (λ f. f.prime ≡ ring.prime) v) }
-    ensures terms { IfOk result (λ v. terms_of v ≡ sum_members ring.prime (terms_of vectors.now)) }
+pub fn sum_part(
+    alloc: Global,
+    prime: Prime,
+    variables: u32,
+    vectors: &[Poly],
+) -> Result<List<Poly>, NoMemory>
+    requires prime { IsPrime prime }
+    requires six_variables { variables ≤ MAX_VARIABLES }
+    requires vectors { (shift : ℕ) × All (IsHomogeneousOver prime variables shift) vectors.now }
+    ensures primes { IfOk result (λ v. All (λ f. f.prime ≡ prime) v) }
+    ensures terms { IfOk result (λ v. terms_of v ≡ sum_members prime (terms_of vectors.now)) }
 {
-    let variables = ring.variables();
     let mut parts = List::new(alloc);
     for v in vectors {
         if is_first(v) {
@@ -75,12 +91,18 @@ pub fn sum_part(alloc: Global, ring: Ring, vectors: &[Poly]) -> Result<List<Poly
 }
 
 /// The second parts of the vectors whose leads lie there, where the homogenising variable is 1.
-pub fn colon_part(alloc: Global, ring: Ring, vectors: &[Poly]) -> Result<List<Poly>, NoMemory>
-    requires vectors { (shift : ℕ) × All (IsHomogeneousOver ring.prime ring.variables shift) vectors.now }
-    ensures primes { IfOk result (λ v. All (λ f. f.prime ≡ ring.prime) v) }
-    ensures terms { IfOk result (λ v. terms_of v ≡ colon_members ring.prime (terms_of vectors.now)) }
+pub fn colon_part(
+    alloc: Global,
+    prime: Prime,
+    variables: u32,
+    vectors: &[Poly],
+) -> Result<List<Poly>, NoMemory>
+    requires prime { IsPrime prime }
+    requires six_variables { variables ≤ MAX_VARIABLES }
+    requires vectors { (shift : ℕ) × All (IsHomogeneousOver prime variables shift) vectors.now }
+    ensures primes { IfOk result (λ v. All (λ f. f.prime ≡ prime) v) }
+    ensures terms { IfOk result (λ v. terms_of v ≡ colon_members prime (terms_of vectors.now)) }
 {
-    let variables = ring.variables();
     let mut parts = List::new(alloc);
     for v in vectors {
         if !is_first(v) {

@@ -5,7 +5,6 @@ pub mod Laws
 pub mod Poly
 pub mod Reduced
 pub mod Ring
-pub mod Rings
 pub mod Terms
 -- the top of a power, within private calls
 pub mod Top

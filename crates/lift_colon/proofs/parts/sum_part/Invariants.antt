@@ -5,4 +5,4 @@ use Rattle.polys.specs.Poly.{terms_of}
 use Rattle.lift_colon.proofs.parts.sum_part.Given as goal
 
 abbrev pub invariant-loop-v : goal.invariant-loop-v
-invariant-loop-v l = All (λ f. f.prime ≡ l.fn.ring.prime) l.parts × (terms_of l.parts ≡ sum_members l.fn.ring.prime (terms_of (take l.v-index l.vectors)))
+invariant-loop-v l = All (λ f. f.prime ≡ l.fn.prime) l.parts × (terms_of l.parts ≡ sum_members l.fn.prime (terms_of (take l.v-index l.vectors)))

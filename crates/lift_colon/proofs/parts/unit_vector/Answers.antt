@@ -8,6 +8,5 @@ use Rattle.lift_colon.proofs.parts.unit_vector.Goals as goal
 pub of_terms-requires : goal.of_terms-requires
 of_terms-requires c =
     let e : c.push.new.self.items ≡ with_unit c.args.d.now.terms = grind (arith, common_steps) in
-    subst (λ p. IsVector p c.push.new.self.items) (sym c.prime-prime.ensures.value)
-    (subst (IsVector c.args.ring.prime) (sym e)
-    (unit_is_vector c.args.ring.prime c.args.ring.variables c.variables.ensures.within c.prime-prime.ensures.known c.args.d.now.terms c.requires.denominator.poly c.requires.room))
+    subst (IsVector c.args.prime) (sym e)
+    (unit_is_vector c.args.prime c.args.variables c.requires.variables c.requires.prime c.args.d.now.terms c.requires.denominator.poly c.requires.room)
