@@ -9,10 +9,11 @@ ghost use Rattle.polys.specs.Poly.{terms_of};
 ghost use Rattle.module_division.specs.Vectors.{member};
 ghost use Rattle.module_basis.specs.Growing.{AreOfOneComponent, IsPair, IsSettledPair, IsAwaited, AreAwaited, IsGrowing, IsReady, GainsPairs, Gains, IsMemberAt, IsNewAt, IsBelowAll, HasHighLeads};
 
+use crate::columns::columns_for;
 use crate::pairs::{Pair, are_coprime, is_chained, s_vector};
 use crate::{BasisStop, Cap, Gens};
 use lists::NoMemory;
-use module_division::{degree_at, lead_mono, vector_remainder};
+use module_division::{Columns, degree_at, lead_mono};
 use monomials::Mono;
 use polys::{Poly, Term};
 use std::alloc::Global;
@@ -67,15 +68,22 @@ impl Growing {
         ensures deep { IfErr result (λ stop. stop ≡ Deep → HasHighLeads gens.now self.old.cap) }
     {
         let _prime = gens.prime.get();
+        let columns = Columns::none(*self.basis.allocator());
         let vectors = gens.vectors.as_slice();
         for k in 0..vectors.len() {
-            self.take_generator(gens, &vectors[k], e)?;
+            self.take_generator(gens, &columns, &vectors[k], e)?;
         }
         Ok(())
     }
 
     // Takes in the generator, if it has degree e.
-    fn take_generator(&mut self, gens: &Gens, v: &Poly, e: u32) -> Result<(), BasisStop>
+    fn take_generator(
+        &mut self,
+        gens: &Gens,
+        columns: &Columns,
+        v: &Poly,
+        e: u32,
+    ) -> Result<(), BasisStop>
         requires gens { AreGens gens.now }
         requires degree { e ≤ self.old.cap }
         requires growing { IsGrowing gens.now e self.old }
@@ -90,7 +98,7 @@ impl Growing {
             return Ok(());
         }
         let terms = v.clone_poly()?.into_terms();
-        self.take(gens, terms, e)?;
+        self.take(gens, columns, terms, e)?;
         Ok(())
     }
 
@@ -109,14 +117,21 @@ impl Growing {
         let _prime = gens.prime.get();
         let alloc = *self.pairs.allocator();
         let waiting = mem::replace(&mut self.pairs, Vec::new(alloc));
+        let columns = columns_for(alloc, gens, &self.basis, &waiting, e)?;
         for k in 0..waiting.len() {
-            self.go_through(gens, waiting[k], e)?;
+            self.go_through(gens, &columns, waiting[k], e)?;
         }
         Ok(())
     }
 
     // Settles the pair, if it has degree e, or lets it go on waiting.
-    fn go_through(&mut self, gens: &Gens, pair: Pair, e: u32) -> Result<(), BasisStop>
+    fn go_through(
+        &mut self,
+        gens: &Gens,
+        columns: &Columns,
+        pair: Pair,
+        e: u32,
+    ) -> Result<(), BasisStop>
         requires gens { AreGens gens.now }
         requires low { e ≤ self.old.cap }
         requires growing { IsGrowing gens.now e self.old }
@@ -131,12 +146,18 @@ impl Growing {
             self.wait(pair)?;
             return Ok(());
         }
-        self.settle(gens, pair, e)?;
+        self.settle(gens, columns, pair, e)?;
         Ok(())
     }
 
     // Settles the pair of degree e, unless a criterion says that it is.
-    fn settle(&mut self, gens: &Gens, pair: Pair, e: u32) -> Result<(), BasisStop>
+    fn settle(
+        &mut self,
+        gens: &Gens,
+        columns: &Columns,
+        pair: Pair,
+        e: u32,
+    ) -> Result<(), BasisStop>
         requires gens { AreGens gens.now }
         requires low { e ≤ self.old.cap }
         requires growing { IsGrowing gens.now e self.old }
@@ -153,12 +174,18 @@ impl Growing {
             return Ok(());
         }
         let s = s_vector(gens, &self.basis[pair.first], &self.basis[pair.second])?;
-        self.take(gens, s.into_terms(), e)?;
+        self.take(gens, columns, s.into_terms(), e)?;
         Ok(())
     }
 
     // Takes in what the basis leaves of a vector of degree e, unless that is 0.
-    fn take(&mut self, gens: &Gens, v: Vec<Term>, e: u32) -> Result<(), BasisStop>
+    fn take(
+        &mut self,
+        gens: &Gens,
+        columns: &Columns,
+        v: Vec<Term>,
+        e: u32,
+    ) -> Result<(), BasisStop>
         requires gens { AreGens gens.now }
         requires degree { e ≤ self.old.cap }
         requires growing { IsGrowing gens.now e self.old }
@@ -172,7 +199,7 @@ impl Growing {
         let _prime = gens.prime.get();
         let _cap = self.cap.get();
         let alloc = *self.basis.allocator();
-        let rest = vector_remainder(alloc, gens.prime, v, &self.basis)?;
+        let rest = columns.remainder(alloc, gens.prime, v, &self.basis)?;
         if rest.is_empty() {
             return Ok(());
         }
