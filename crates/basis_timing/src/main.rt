@@ -7,7 +7,7 @@
 #![tactic(auto)]
 
 ghost use Rattle.std.specs.Prelude.{◌≡◌, ◌≤◌, ◌<◌, All, IfOk, OnOk, IsTrue};
-ghost use Rattle.graded_modules.specs.Vector.{IsGenerator};
+ghost use Rattle.graded_modules.specs.Vector.{IsGraded, IsGenerator};
 ghost use Rattle.module_basis.specs.Gens.{AreGens, IsHomogeneousOver};
 
 use lists::{List, NoMemory};
@@ -64,19 +64,14 @@ fn term(p: Prime, variables: u32, numbers: &mut Numbers) -> Term
         mono = times_power(&mono, v, numbers.next());
     }
     let homogenising = Mono::one().with_hom(numbers.next().min(1000));
-    if mono.degree() < 50000 {
+    if mono.degree() < 50000 && mono.component() == 0 {
         mono = Mono::product(&homogenising.with_component(component), &mono);
     }
     Term { coeff, mono }
 }
 
 // The next vector.
-fn vector(
-    alloc: Global,
-    p: Prime,
-    variables: u32,
-    numbers: &mut Numbers,
-) -> Result<Poly, NoMemory>
+fn vector(alloc: Global, p: Prime, variables: u32, numbers: &mut Numbers) -> Result<Poly, NoMemory>
     ensures { IfOk result (λ f. f.prime ≡ p) }
 {
     let mut sum = Poly::zero(alloc, p);
@@ -89,9 +84,12 @@ fn vector(
     Ok(sum)
 }
 // Whether the monomial is one of the first `variables` variables and the homogenising one.
-fn is_graded(m: &Mono, variables: u32) -> bool {
-    for v in 0..6 {
-        if v >= variables && m.exponent(v) != 0 {
+fn is_graded(m: &Mono, variables: u32) -> bool
+    ensures { IsTrue result → IsGraded variables m.now }
+{
+    let _degree = m.degree();
+    for v in variables..6 {
+        if m.exponent(v) != 0 {
             return false;
         }
     }
@@ -99,9 +97,12 @@ fn is_graded(m: &Mono, variables: u32) -> bool {
 }
 
 // Whether all terms have such monomials, of one degree.
-fn is_homogeneous(f: &Poly, variables: u32, shift: u32) -> bool {
+fn is_homogeneous(f: &Poly, variables: u32, shift: u32) -> bool
+    ensures { IsTrue result → IsGenerator f.now.prime variables shift f.now.terms }
+{
     let degree = degree_at(shift, &lead_mono(f));
-    for t in f.terms() {
+    let terms = f.terms();
+    for t in terms {
         if degree_at(shift, &t.mono) != degree || !is_graded(&t.mono, variables) {
             return false;
         }
@@ -110,11 +111,22 @@ fn is_homogeneous(f: &Poly, variables: u32, shift: u32) -> bool {
 }
 
 // Puts the vector at the end, unless it is not homogeneous.
-fn gather(variables: u32, shift: u32, f: Poly, all: &mut List<Poly>) -> Result<(), NoMemory> {
+fn gather(
+    p: Prime,
+    variables: u32,
+    shift: u32,
+    f: Poly,
+    all: &mut List<Poly>,
+) -> Result<(), NoMemory>
+    requires prime { f.prime ≡ p }
+    requires all { All (IsHomogeneousOver p variables shift) all.old }
+    ensures { OnOk result (All (IsHomogeneousOver p variables shift) all.new) }
+{
     if !is_homogeneous(&f, variables, shift) {
         return Ok(());
     }
-    all.push(f)
+    all.push(f)?;
+    Ok(())
 }
 
 // All vectors that are left, and no more than 100.
@@ -125,13 +137,20 @@ fn vectors(
     shift: u32,
     numbers: &mut Numbers,
 ) -> Result<List<Poly>, NoMemory>
+    ensures { IfOk result (λ fs. All (IsHomogeneousOver p variables shift) fs) }
 {
     let mut all = List::new(alloc);
     for _ in 0..100 {
         if numbers.is_done() {
             return Ok(all);
         }
-        gather(variables, shift, vector(alloc, p, variables, numbers)?, &mut all)?;
+        gather(
+            p,
+            variables,
+            shift,
+            vector(alloc, p, variables, numbers)?,
+            &mut all,
+        )?;
     }
     Ok(all)
 }

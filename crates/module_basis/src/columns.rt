@@ -6,10 +6,11 @@ use module_division::Columns;
 use polys::Poly;
 use std::alloc::Global;
 
-// A degree gets columns where they are at most this many times the terms of the multiples that its pairs begin with.
-const COLUMNS_A_TERM: usize = 32;
+// Vectors with fewer terms on average are divided by merges.
+const LONG: usize = 24;
 
-// The columns of the degree, where division by rows pays, and none otherwise.
+// The columns of the degree, where division by rows pays, and none otherwise. It pays where there are no more columns than half
+// the terms that merges move: about the square of the terms of a vector for each pair.
 pub(crate) fn columns_for(
     alloc: Global,
     gens: &Gens,
@@ -21,18 +22,17 @@ pub(crate) fn columns_for(
         .iter()
         .filter(|pair| pair.degree == u64::from(e))
         .count();
-    if pairs == 0 {
+    let length = average_length(basis);
+    if pairs == 0 || length < LONG {
         return Ok(Columns::none(alloc));
     }
-    let limit = pairs
-        .saturating_mul(average_length(basis))
-        .saturating_mul(COLUMNS_A_TERM);
+    let moved = pairs.saturating_mul(length).saturating_mul(length);
     let shift = if is_plain(gens.vectors.as_slice()) {
         None
     } else {
         Some(gens.shift)
     };
-    Columns::of_degree(alloc, gens.variables, shift, e, limit)
+    Columns::of_degree(alloc, gens.variables, shift, e, moved / 2)
 }
 
 // The number of terms of a vector on average.

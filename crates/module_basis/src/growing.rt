@@ -68,10 +68,10 @@ impl Growing {
         ensures deep { IfErr result (λ stop. stop ≡ Deep → HasHighLeads gens.now self.old.cap) }
     {
         let _prime = gens.prime.get();
-        let columns = Columns::none(*self.basis.allocator());
+        let mut columns = Columns::none(*self.basis.allocator());
         let vectors = gens.vectors.as_slice();
         for k in 0..vectors.len() {
-            self.take_generator(gens, &columns, &vectors[k], e)?;
+            self.take_generator(gens, &mut columns, &vectors[k], e)?;
         }
         Ok(())
     }
@@ -80,7 +80,7 @@ impl Growing {
     fn take_generator(
         &mut self,
         gens: &Gens,
-        columns: &Columns,
+        columns: &mut Columns,
         v: &Poly,
         e: u32,
     ) -> Result<(), BasisStop>
@@ -117,9 +117,9 @@ impl Growing {
         let _prime = gens.prime.get();
         let alloc = *self.pairs.allocator();
         let waiting = mem::replace(&mut self.pairs, Vec::new(alloc));
-        let columns = columns_for(alloc, gens, &self.basis, &waiting, e)?;
+        let mut columns = columns_for(alloc, gens, &self.basis, &waiting, e)?;
         for k in 0..waiting.len() {
-            self.go_through(gens, &columns, waiting[k], e)?;
+            self.go_through(gens, &mut columns, waiting[k], e)?;
         }
         Ok(())
     }
@@ -128,7 +128,7 @@ impl Growing {
     fn go_through(
         &mut self,
         gens: &Gens,
-        columns: &Columns,
+        columns: &mut Columns,
         pair: Pair,
         e: u32,
     ) -> Result<(), BasisStop>
@@ -154,7 +154,7 @@ impl Growing {
     fn settle(
         &mut self,
         gens: &Gens,
-        columns: &Columns,
+        columns: &mut Columns,
         pair: Pair,
         e: u32,
     ) -> Result<(), BasisStop>
@@ -182,7 +182,7 @@ impl Growing {
     fn take(
         &mut self,
         gens: &Gens,
-        columns: &Columns,
+        columns: &mut Columns,
         v: Vec<Term>,
         e: u32,
     ) -> Result<(), BasisStop>

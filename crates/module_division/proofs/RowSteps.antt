@@ -1,5 +1,5 @@
 -- Steps of a division by rows.
-use Rattle.std.proofs.Common.{◌≡◌, ℕ, ◌+◌, ◌<◌, List, [], ◌∷◌, ◌++◌, length, get_or, drop, map, sym, ap, ◌∙◌, subst}
+use Rattle.std.proofs.Common.{◌≡◌, ℕ, ◌+◌, ◌%◌, ◌<◌, List, [], ◌∷◌, ◌++◌, length, get_or, drop, map, refl, sym, ap, ◌∙◌, subst}
 use Rattle.std.specs.List.{All}
 use Rattle.std.proofs.lemmas.List.{drop_more, get_or_default}
 use Rattle.prime_field.specs.Primes.{IsPrime}
@@ -10,6 +10,7 @@ use Rattle.polys.specs.Poly.{IsVector}
 use Rattle.polys.proofs.Sums.{add_normal_left}
 use Rattle.graded_modules.specs.Module.{IsLeadMultiple}
 use Rattle.module_division.specs.Division.{term_product}
+use Rattle.module_division.specs.declared.rows.TheConstants.{ENTRY_LIMIT}
 use Rattle.module_division.specs.Rows.{AreFalling, row_terms}
 use Rattle.module_division.proofs.Merging.{product_of_term}
 use Rattle.module_division.proofs.Steps.{Divided, Opposes, divided_keep, divided_after, left_vector}
@@ -22,25 +23,27 @@ row_from p ms cs i = normal p (row_terms (drop i ms) (drop i cs))
 -- what is so before the column i is looked at
 pub record IsRow (p : ℕ) (bs : List (List Term)) (v out : List Term) (ms : List Monomial) (cs : List ℕ) (i : ℕ) : Type 0 where
   pub same_length : length cs ≡ length ms
-  pub residues : All (λ c. c < p) cs
+  pub entries : All (λ k. k < ENTRY_LIMIT) cs
   pub divided : Divided p bs v out (row_from p ms cs i)
 
 module _ (p : ℕ) (bs : List (List Term)) (v out : List Term) (ms : List Monomial) (cs : List ℕ) (i : ℕ)
     (inside : i < length ms) (same_length : length cs ≡ length ms) where
   -- a column whose coefficient is 0
-  pub divided_skip : get_or cs i 0 ≡ 0 → Divided p bs v out (row_from p ms cs i) → Divided p bs v out (row_from p ms cs (i + 1))
+  pub divided_skip : get_or cs i 0 % p ≡ 0 → Divided p bs v out (row_from p ms cs i) → Divided p bs v out (row_from p ms cs (i + 1))
   divided_skip e d =
       let m = get_or ms i unit in
       let f = row_terms (drop (i + 1) ms) (drop (i + 1) cs) in
-      let q : row_terms (drop i ms) (drop i cs) ≡ record { coeff = 0; mono = m } ∷ f = row_more ms cs i m 0 inside same_length (get_or_default ms i unit m inside) (sym e) in
-      subst (Divided p bs v out) (ap (normal p) q ∙ row_skip p m f) d
+      let q : row_terms (drop i ms) (drop i cs) ≡ record { coeff = get_or cs i 0; mono = m } ∷ f = row_more ms cs i m (get_or cs i 0) inside same_length (get_or_default ms i unit m inside) refl in
+      subst (Divided p bs v out) (ap (normal p) q ∙ row_skip p (get_or cs i 0) m f e) d
 
-  module _ (m : Monomial) (c : ℕ) (at_m : m ≡ get_or ms i m) (at_c : c ≡ get_or cs i 0) (falling : AreFalling ms) (some : 0 < c) (low : c < p) where
+  module _ (m : Monomial) (c : ℕ) (at_m : m ≡ get_or ms i m) (at_c : c ≡ get_or cs i 0 % p) (falling : AreFalling ms) (some : 0 < c) where
     pub row_at : row_from p ms cs i ≡ record { coeff = c; mono = m } ∷ row_from p ms cs (i + 1)
     row_at =
         let q : drop i ms ≡ m ∷ drop (i + 1) ms = drop_more ms i m inside ∙ ap (λ x. x ∷ drop (i + 1) ms) (sym at_m) in
         let fall : AreFalling (m ∷ drop (i + 1) ms) = subst AreFalling q (falling_drop i ms falling) in
-        ap (normal p) (row_more ms cs i m c inside same_length at_m at_c) ∙ row_top p c m (drop (i + 1) ms) (drop (i + 1) cs) some low fall.0
+        ap (normal p) (row_more ms cs i m (get_or cs i 0) inside same_length at_m refl)
+        ∙ row_top p (get_or cs i 0) m (drop (i + 1) ms) (drop (i + 1) cs) (subst (λ n. 0 < n) at_c some) fall.0
+        ∙ ap (λ k. record { coeff = k; mono = m } ∷ row_from p ms cs (i + 1)) (sym at_c)
 
     -- a column that no lead divides
     pub divided_put : (IsLeadMultiple bs m → ⊥) → Divided p bs v out (row_from p ms cs i) → Divided p bs v (out ++ record { coeff = c; mono = m } ∷ []) (row_from p ms cs (i + 1))

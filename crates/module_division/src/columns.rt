@@ -1,11 +1,12 @@
 // The monomials of one degree as columns, and where each of them stands.
-ghost use Rattle.std.specs.Prelude.{◌≡◌, ◌<◌, ◌≤◌, [], length, IsTrue, IfSome, slice_index_or};
+ghost use Rattle.std.specs.Prelude.{◌≡◌, ◌<◌, ◌≤◌, [], length, IsTrue, slice_index_or};
 ghost use Rattle.std.specs.declared.cmp.Ordering.TheVariants.{Greater};
 ghost use Rattle.monomials.specs.Mono.{cmp_dp};
 ghost use Rattle.module_division.specs.Rows.{AreFalling};
 
 use lists::NoMemory;
 use monomials::{MAX_DEGREE, Mono};
+use polys::Term;
 use std::alloc::{AllocError, Global};
 use std::cmp::Ordering;
 use std::marker::Model;
@@ -26,7 +27,7 @@ pub(crate) struct Places {
 
 impl Places {
     // The column where the monomial ought to stand.
-    fn guess(&self, m: &Mono) -> usize {
+    pub(crate) fn guess(&self, m: &Mono) -> usize {
         let mut sum = 0u32;
         let mut start = 0usize;
         let mut later = 0usize;
@@ -46,16 +47,57 @@ impl Places {
         last.wrapping_sub(later)
     }
 
-    // The column of the monomial.
-    pub(crate) fn find(&self, columns: &[Mono], m: &Mono) -> Option<usize>
-        ensures { IfSome result (λ z. (z < length columns.now) × ((d : _) → slice_index_or columns.now z d ≡ m.now)) }
-    {
-        let z = self.guess(m);
-        if z < columns.len() && columns[z] == *m {
-            Some(z)
-        } else {
-            None
+    // The column where the product ought to stand.
+    fn guess_product(&self, a: &Mono, b: &Mono) -> usize {
+        if b.component() != 0 || a.degree() > MAX_DEGREE / 2 || b.degree() > MAX_DEGREE / 2 {
+            return 0;
         }
+        self.guess(&Mono::product(a, b))
+    }
+}
+
+// Whether the column is that of the monomial.
+pub(crate) fn is_column(columns: &[Mono], z: usize, m: &Mono) -> bool
+    ensures { IsTrue result → (z < length columns.now) × ((d : _) → slice_index_or columns.now z d ≡ m.now) }
+{
+    z < columns.len() && columns[z] == *m
+}
+
+// Guesses of columns for multiples, kept from one vector to the next.
+#[derive(Debug, Drop)]
+pub(crate) struct Guesses {
+    // for each column one more than where the guesses for the multiple with this lead begin, or 0
+    starts: Vec<usize>,
+    all: Vec<usize>,
+}
+
+impl Guesses {
+    // Where the guesses for the multiple by `t`, whose lead stands in the column, begin. They are made when first asked for.
+    pub(crate) fn start(
+        &mut self,
+        places: &Places,
+        column: usize,
+        t: &Mono,
+        terms: &[Term],
+    ) -> Result<usize, AllocError> {
+        let known = self.starts.get(column).copied().unwrap_or(0);
+        if known > 0 {
+            return Ok(known - 1);
+        }
+        let start = self.all.len();
+        for u in terms {
+            let guess = places.guess_product(&u.mono, t);
+            self.all.push(guess)?;
+        }
+        if column < self.starts.len() {
+            self.starts[column] = start.saturating_add(1);
+        }
+        Ok(start)
+    }
+
+    // The guess with this number.
+    pub(crate) fn get(&self, number: usize) -> usize {
+        self.all.get(number).copied().unwrap_or(0)
     }
 }
 
@@ -93,53 +135,116 @@ fn exchanged(m: &Mono, from: &Mono, to: &Mono) -> Mono {
     Mono::product(&rest, to)
 }
 
-// The next lower monomial of the degree in the first `variables` variables and the homogenising one, where `v` is the first
-// variable in it: of its power, one factor goes to the next variable, and the others to the first one.
-fn lowered(variables: u32, m: &Mono, v: u32) -> Mono
-    requires { v < 6 }
-{
-    let x = Mono::var(v);
-    let up = if v + 1 < variables.min(6) {
+// The variable after this one, where the homogenising one is the last.
+fn variable_after(variables: u32, v: u32) -> Mono {
+    if v < 5 && v + 1 < variables {
         Mono::var(v + 1)
     } else {
         Mono::one().with_hom(1)
-    };
-    let mut lower = exchanged(m, &x, &up);
-    if v > 0 {
+    }
+}
+
+// The next lower monomial of the degree in the variables from `first` on and the homogenising one, where `v` is the first one in
+// it: of its power, one factor goes to the variable after it, and the others to the first one.
+fn lowered(variables: u32, first: u32, m: &Mono, v: u32) -> Mono
+    requires { (v < 6) × (first < 6) }
+{
+    let x = Mono::var(v);
+    let mut lower = exchanged(m, &x, &variable_after(variables, v));
+    if v > first {
         for _ in 1..m.exponent(v) {
-            lower = exchanged(&lower, &x, &Mono::var(0));
+            lower = exchanged(&lower, &x, &Mono::var(first));
         }
     }
     lower
 }
 
-// The next lower monomial of the degree, and the same one for a power of the homogenising variable.
-fn next(variables: u32, m: &Mono) -> Mono {
-    for v in 0..6 {
+// The next lower monomial of the degree in the variables from `first` on, and the same one for a power of the homogenising
+// variable.
+fn next(variables: u32, first: u32, m: &Mono) -> Mono
+    requires { first < 6 }
+{
+    for v in first..6 {
         if v < variables && m.exponent(v) > 0 {
-            return lowered(variables, m, v);
+            return lowered(variables, first, m, v);
         }
     }
     *m
 }
 
-// Puts the first `count` monomials of the degree and the component at the end, falling.
+// The power of the variable.
+fn power_of(v: u32, degree: u32) -> Mono
+    requires { v < 6 }
+{
+    let mut m = Mono::one();
+    for _ in 0..degree {
+        m = exchanged(&m, &Mono::one(), &Mono::var(v));
+    }
+    m
+}
+
+// For each degree up to `degree` the monomials of the first two variables, falling.
+fn pairs_of_powers(alloc: Global, degree: u32) -> Result<Vec<Vec<Mono>>, AllocError> {
+    let mut all: Vec<Vec<Mono>> = Vec::new(alloc);
+    for s in 0..degree {
+        let mut row = Vec::new(alloc);
+        if let Some(before) = all.last() {
+            for m in before {
+                row.push(exchanged(m, &Mono::one(), &Mono::var(0)))?;
+            }
+        }
+        row.push(power_of(1, s))?;
+        all.push(row)?;
+    }
+    Ok(all)
+}
+
+// Puts the monomials at the end in which the power of the second variable in m is shared between the first two.
+fn push_shared(
+    m: &Mono,
+    component: u32,
+    powers: &[Vec<Mono>],
+    columns: &mut Vec<Mono>,
+) -> Result<(), AllocError>
+    requires { component ≤ 1 }
+{
+    let Some(row) = powers.get(m.exponent(1) as usize) else {
+        return Ok(());
+    };
+    let Some(whole) = row.last() else {
+        return Ok(());
+    };
+    if !Mono::divides(whole, m) {
+        return Ok(());
+    }
+    let rest = Mono::quotient(m, whole).with_component(component);
+    for share in row {
+        if share.component() == 0 && rest.degree() + share.degree() <= MAX_DEGREE {
+            columns.push(Mono::product(&rest, share))?;
+        }
+    }
+    Ok(())
+}
+
+// Puts the monomials of the degree and the component at the end, falling; no more than `count` steps.
 fn list_monomials(
     variables: u32,
     degree: u32,
     component: u32,
+    powers: &[Vec<Mono>],
     count: usize,
     columns: &mut Vec<Mono>,
 ) -> Result<(), AllocError>
     requires { component ≤ 1 }
 {
-    let mut m = Mono::one();
-    for _ in 0..degree {
-        m = exchanged(&m, &Mono::one(), &Mono::var(0));
-    }
+    let first = if variables > 1 { 1 } else { 0 };
+    let mut m = power_of(first, degree);
     for _ in 0..count {
-        columns.push(m.with_component(component))?;
-        m = next(variables, &m);
+        push_shared(&m, component, powers, columns)?;
+        if m.hom() == degree {
+            return Ok(());
+        }
+        m = next(variables, first, &m);
     }
     Ok(())
 }
@@ -173,6 +278,7 @@ fn are_falling(columns: &[Mono]) -> bool
 pub struct Columns {
     pub(crate) places: Places,
     pub(crate) columns: Vec<Mono>,
+    pub(crate) guesses: Guesses,
 }
 
 impl Model for Columns {
@@ -200,6 +306,10 @@ impl Columns {
                 last: [0; 2],
             },
             columns: Vec::new(alloc),
+            guesses: Guesses {
+                starts: Vec::new(alloc),
+                all: Vec::new(alloc),
+            },
         }
     }
 
@@ -224,14 +334,12 @@ impl Columns {
         if first.saturating_add(second) > limit.min(MAX_COLUMNS) {
             return Ok(Columns::none(alloc));
         }
-        list_monomials(variables, degree, 0, first, &mut columns)?;
-        list_monomials(
-            variables,
-            degree.saturating_sub(shift.unwrap_or(0)),
-            1,
-            second,
-            &mut columns,
-        )?;
+        let powers = pairs_of_powers(alloc, degree.saturating_add(1))?;
+        list_monomials(variables, degree, 0, &powers, first, &mut columns)?;
+        if let Some(s) = shift {
+            let lower = degree.saturating_sub(s);
+            list_monomials(variables, lower, 1, &powers, second, &mut columns)?;
+        }
         if !are_falling(&columns) {
             return Ok(Columns::none(alloc));
         }
@@ -242,7 +350,15 @@ impl Columns {
             later,
             last,
         };
-        Ok(Columns { places, columns })
+        let guesses = Guesses {
+            starts: vec![in alloc; 0usize; columns.len()]?,
+            all: Vec::new(alloc),
+        };
+        Ok(Columns {
+            places,
+            columns,
+            guesses,
+        })
     }
 }
 

@@ -29,7 +29,7 @@ pub(crate) fn find_divisor(divisors: &[Poly], m: &Mono) -> Option<usize>
 }
 
 // The product of two terms, of which the second has component 0.
-pub(crate) fn term_product(p: Prime, u: &Term, t: &Term) -> Term
+fn term_product(p: Prime, u: &Term, t: &Term) -> Term
     requires left { u.now.coeff < p }
     requires right { t.now.coeff < p }
     requires plain { IsPlain t.now.mono }
