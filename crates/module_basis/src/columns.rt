@@ -9,6 +9,9 @@ use std::alloc::Global;
 // Vectors with fewer terms on average are divided by merges.
 const LONG: usize = 24;
 
+// So are those in fewer variables, where what no lead divides is little in a degree, so that vectors stay short.
+const FEW_VARIABLES: u32 = 3;
+
 // The columns of the degree, where division by rows pays, and none otherwise. It pays where there are no more columns than half
 // the terms that merges move: about the square of the terms of a vector for each pair.
 pub(crate) fn columns_for(
@@ -23,7 +26,7 @@ pub(crate) fn columns_for(
         .filter(|pair| pair.degree == u64::from(e))
         .count();
     let length = average_length(basis);
-    if pairs == 0 || length < LONG {
+    if pairs == 0 || length < LONG || gens.variables < FEW_VARIABLES {
         return Ok(Columns::none(alloc));
     }
     let moved = pairs.saturating_mul(length).saturating_mul(length);

@@ -148,7 +148,10 @@ fn divisions_by_rows(rt: HostRuntime) -> Result<(), Fail> {
         (4, &[(1, 4, 0), (2, 1, 3)], two, &[]),
     ];
     for (i, (degree, v, by, rest)) in table.iter().enumerate() {
-        assert!(rt; leaves_by_rows(rt.alloc(), *degree, v, by, rest)?, "row {i}");
+        assert!(rt;
+            leaves_by_rows(rt.alloc(), *degree, v, by, rest)?,
+            "row {i}"
+        );
     }
     Ok(())
 }
