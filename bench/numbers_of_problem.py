@@ -1,5 +1,5 @@
 #!/usr/bin/env python3
-"""The numbers that basis_timing reads, of a problem: its ideal, and the denominator as one more generator.
+"""The numbers that basis_timing reads, of a problem: its ideal and the denominator as one more generator, homogenised.
 
 usage: numbers_of_problem.py CAP < problem
 """
@@ -79,19 +79,36 @@ class Reader:
         return base
 
 
-def main():
-    cap = sys.argv[1]
-    text = re.sub(r"//.*", "", sys.stdin.read())
+def homogenised(f, variables):
+    """Pairs of a coefficient and the exponents of the first variables and the homogenising one."""
+    degree = max(sum(mono) for mono in f)
+    return [(coeff, mono[:variables] + (degree - sum(mono),)) for mono, coeff in f.items()]
+
+
+def numbers(prime, cap, variables, shift, vectors):
+    """The input of basis_timing: a vector is a list of terms, each a coefficient, a component and exponents."""
+    lines = [f"{prime} {cap} {variables} {shift}"]
+    for vector in vectors:
+        terms = [" ".join(map(str, (coeff, component, *mono))) for coeff, component, mono in vector]
+        lines.append(f"{len(vector)} " + " ".join(terms))
+    return "\n".join(lines) + "\n"
+
+
+def polynomials(text):
+    """The prime, the letters and the polynomials of a problem."""
+    text = re.sub(r"//.*", "", text)
     ring = re.search(r"ring\s+\w+\s*=\s*(\d+)\s*,\s*\(?([^;]*?)\)?\s*,\s*dp", text)
     prime = int(ring.group(1))
     letters = re.findall(r"[A-Za-z]", ring.group(2))
     bodies = re.findall(r"(?:ideal|poly)\s+\w+\s*=([^;]*);", text)
-    print(prime, cap)
-    for body in bodies:
-        for generator in body.split(","):
-            f = Reader(prime, letters, generator).sum()
-            terms = [" ".join(map(str, (coeff, *mono))) for mono, coeff in f.items()]
-            print(len(f), " ".join(terms))
+    return prime, letters, [Reader(prime, letters, f).sum() for body in bodies for f in body.split(",")]
 
 
-main()
+def main():
+    prime, letters, ideal = polynomials(sys.stdin.read())
+    vectors = [[(coeff, 0, mono) for coeff, mono in homogenised(f, len(letters))] for f in ideal]
+    sys.stdout.write(numbers(prime, sys.argv[1], len(letters), 0, vectors))
+
+
+if __name__ == "__main__":
+    main()

@@ -1,16 +1,18 @@
-//! The reduced basis of an ideal, for times: prints how many members it has and the sum of the degrees of their leads, and
-//! the time where a word is given.
+//! The reduced basis of a graded module, for times: prints how many members it has and the sum of the degrees of their leads,
+//! and the time where a word is given.
 //!
-//! The input is numbers between blanks: the prime, the cap, and for each generator the number of its terms, then for each
-//! term the coefficient and the exponents of six variables.
+//! The input is numbers between blanks: the prime, the cap, the number of variables without the homogenising one, the degree of
+//! the second unit vector, and for each generator the number of its terms, then for each term the coefficient, the component, 0
+//! or 1, and the exponents of the variables, the homogenising one last. Generators must be homogeneous.
 #![tactic(auto)]
 
 ghost use Rattle.std.specs.Prelude.{◌≡◌, ◌≤◌, ◌<◌, All, IfOk, OnOk, IsTrue};
-ghost use Rattle.polys.specs.Curve.{IsOver};
-ghost use Rattle.polys.specs.Terms.{IsPoly};
+ghost use Rattle.graded_modules.specs.Vector.{IsGraded, IsGenerator};
+ghost use Rattle.module_basis.specs.Gens.{AreGens, IsHomogeneousOver};
 
 use lists::{List, NoMemory};
 use module_basis::{BasisStop, Gens, graded_basis};
+use module_division::{degree_at, lead_mono};
 use monomials::Mono;
 use polys::{Poly, Term};
 use prime_field::Prime;
@@ -51,74 +53,115 @@ fn times_power(mono: &Mono, v: u32, exponent: u32) -> Mono
     product
 }
 
-// The next term.
-fn term(p: Prime, numbers: &mut Numbers) -> Term
+// The next term, of `variables` variables and the homogenising one.
+fn term(p: Prime, variables: u32, numbers: &mut Numbers) -> Term
     ensures { result.coeff < p }
 {
     let coeff = numbers.next() % p.get();
+    let component = numbers.next().min(1);
     let mut mono = Mono::one();
-    for v in 0..6 {
+    for v in 0..variables.min(6) {
         mono = times_power(&mono, v, numbers.next());
+    }
+    let homogenising = Mono::one().with_hom(numbers.next().min(1000));
+    if mono.degree() < 50000 && mono.component() == 0 {
+        mono = Mono::product(&homogenising.with_component(component), &mono);
     }
     Term { coeff, mono }
 }
 
-// The next polynomial.
-fn polynomial(alloc: Global, p: Prime, numbers: &mut Numbers) -> Result<Poly, NoMemory>
+// The next vector.
+fn vector(alloc: Global, p: Prime, variables: u32, numbers: &mut Numbers) -> Result<Poly, NoMemory>
     ensures { IfOk result (λ f. f.prime ≡ p) }
 {
     let mut sum = Poly::zero(alloc, p);
     for _ in 0..numbers.next() {
         if !numbers.is_done() {
-            let one = Poly::from_term(alloc, p, term(p, numbers))?;
+            let one = Poly::from_term(alloc, p, term(p, variables, numbers))?;
             sum = sum.add(&one)?;
         }
     }
     Ok(sum)
 }
-
-// Whether this is a polynomial in the six variables.
-fn is_affine(f: &Poly) -> bool
-    ensures { IsTrue result → IsPoly f.now.prime 6 f.now.terms }
+// Whether the monomial is one of the first `variables` variables and the homogenising one.
+fn is_graded(m: &Mono, variables: u32) -> bool
+    ensures { IsTrue result → IsGraded variables m.now }
 {
-    let _terms = f.terms();
-    f.is_affine()
+    let _degree = m.degree();
+    for v in variables..6 {
+        if m.exponent(v) != 0 {
+            return false;
+        }
+    }
+    true
 }
 
-// Puts the polynomial at the end, unless it is not affine.
-fn gather(p: Prime, f: Poly, all: &mut List<Poly>) -> Result<(), NoMemory>
-    requires prime { f.prime ≡ p }
-    requires all { All (IsOver p 6) all.old }
-    ensures { OnOk result (All (IsOver p 6) all.new) }
+// Whether all terms have such monomials, of one degree.
+fn is_homogeneous(f: &Poly, variables: u32, shift: u32) -> bool
+    ensures { IsTrue result → IsGenerator f.now.prime variables shift f.now.terms }
 {
-    if !is_affine(&f) {
+    let degree = degree_at(shift, &lead_mono(f));
+    let terms = f.terms();
+    for t in terms {
+        if degree_at(shift, &t.mono) != degree || !is_graded(&t.mono, variables) {
+            return false;
+        }
+    }
+    true
+}
+
+// Puts the vector at the end, unless it is not homogeneous.
+fn gather(
+    p: Prime,
+    variables: u32,
+    shift: u32,
+    f: Poly,
+    all: &mut List<Poly>,
+) -> Result<(), NoMemory>
+    requires prime { f.prime ≡ p }
+    requires all { All (IsHomogeneousOver p variables shift) all.old }
+    ensures { OnOk result (All (IsHomogeneousOver p variables shift) all.new) }
+{
+    if !is_homogeneous(&f, variables, shift) {
         return Ok(());
     }
-    all.push(f)
+    all.push(f)?;
+    Ok(())
 }
 
-// All polynomials that are left, and no more than 100.
-fn polynomials(alloc: Global, p: Prime, numbers: &mut Numbers) -> Result<List<Poly>, NoMemory>
-    ensures { IfOk result (λ fs. All (IsOver p 6) fs) }
+// All vectors that are left, and no more than 100.
+fn vectors(
+    alloc: Global,
+    p: Prime,
+    variables: u32,
+    shift: u32,
+    numbers: &mut Numbers,
+) -> Result<List<Poly>, NoMemory>
+    ensures { IfOk result (λ fs. All (IsHomogeneousOver p variables shift) fs) }
 {
     let mut all = List::new(alloc);
     for _ in 0..100 {
         if numbers.is_done() {
             return Ok(all);
         }
-        gather(p, polynomial(alloc, p, numbers)?, &mut all)?;
+        gather(
+            p,
+            variables,
+            shift,
+            vector(alloc, p, variables, numbers)?,
+            &mut all,
+        )?;
     }
     Ok(all)
 }
 
 // The number of the members of the reduced basis and the sum of the degrees of their leads.
-fn basis(alloc: Global, p: Prime, cap: u32, ideal: &[Poly]) -> Result<(usize, u64), BasisStop>
+fn basis(alloc: Global, gens: &Gens, cap: u32) -> Result<(usize, u64), BasisStop>
+    requires gens { AreGens gens.now }
     requires some_cap { 1 ≤ cap }
     requires cap { cap ≤ 1000 }
-    requires ideal { All (IsOver p 6) ideal.now }
 {
-    let gens = Gens::homogenised(alloc, p, 6, ideal)?;
-    let graded = graded_basis(alloc, &gens, cap)?;
+    let graded = graded_basis(alloc, gens, cap)?;
     let mut degrees = 0u64;
     for f in graded.vectors() {
         degrees = degrees.saturating_add(u64::from(f.degree()));
@@ -143,12 +186,20 @@ fn main(rt: HostRuntime) -> io::Result<()> {
         return Ok(());
     };
     let cap = numbers.next().clamp(1, 1000);
-    let Ok(ideal) = polynomials(rt.alloc(), p, &mut numbers) else {
+    let variables = numbers.next().clamp(1, 6);
+    let shift = numbers.next();
+    let Ok(vectors) = vectors(rt.alloc(), p, variables, shift, &mut numbers) else {
         println!(rt; "no memory")?;
         return Ok(());
     };
+    let gens = Gens {
+        prime: p,
+        variables,
+        shift,
+        vectors,
+    };
     let start = Instant::now(&rt)?;
-    let found = basis(rt.alloc(), p, cap, ideal.as_slice());
+    let found = basis(rt.alloc(), &gens, cap);
     let time = start.elapsed(&rt)?.as_nanos();
     match found {
         Ok((members, degrees)) => println!(rt; "members {members} degrees {degrees}")?,

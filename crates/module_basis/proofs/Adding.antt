@@ -21,7 +21,7 @@ use Rattle.module_division.specs.Division.{Reduces}
 use Rattle.module_basis.specs.declared.gens.Gens.{Gens}
 use Rattle.module_basis.specs.declared.growing.Growing.{Growing}
 use Rattle.module_basis.specs.declared.pairs.Pair.{Pair}
-use Rattle.module_basis.specs.Growing.{pair_of, AreOfOneComponent, IsPair, IsSettledPair, IsAwaited, AreAwaited, IsGrown, IsGrowing, GainsPairs, Gains, IsMemberAt, IsNewAt, IsBelowAll}
+use Rattle.module_basis.specs.Growing.{pair_of, AreOfOneComponent, IsPair, IsSettledPair, IsAwaited, AreAwaited, IsGrown, IsGrowing, GainsPairs, GainsVector, IsMemberAt, IsNewAt, IsBelowAll}
 use Rattle.module_basis.proofs.Pairing.{paired}
 use Rattle.module_division.proofs.Lists.{count_lists, lists_append, member_left, contains_more, divisor_vectors}
 use Rattle.module_basis.proofs.Growth.{grown_new, pair_more, awaited_more, one_component_back, divisors, program_vector, nothing_in, nothing_below, new_is, new_in, new_below, generators_new}
@@ -63,7 +63,7 @@ module _ (gens : Gens) (e : ℕ) (prime : IsPrime gens.prime) (old new : Growing
   -- after the pairs with the new vector were formed
   pub pushed_gains : (last : Growing) → new.cap ≡ old.cap → new.pairs.items ≡ old.pairs.items → GainsPairs e new last
       → ((i k : ℕ) → k + 1 ≡ length new.basis.items → i < k → AreOfOneComponent (terms_of new.basis.items) i k → IsAwaited gens new.cap (terms_of new.basis.items) last.pairs.items i k)
-      → Gains gens e old last
+      → GainsVector gens e old last
   pushed_gains last cap pairs gains here = record {
     cap = gains.cap ∙ cap;
     more = b ∷ [];
@@ -101,7 +101,7 @@ module _ (gens : Gens) (e : ℕ) (prime : IsPrime gens.prime) (old new : Growing
               (h i j rising l (one_component_back gens (terms_of old.basis.items) (terms_of new.basis.items) (b.terms ∷ []) i j pushed_lists (omega arith) (omega arith) one))
 
 -- where nothing was added
-pub nothing_gained : (gens : Gens) (e : ℕ) (g : Growing) → Gains gens e g g
+pub nothing_gained : (gens : Gens) (e : ℕ) (g : Growing) → GainsVector gens e g g
 nothing_gained gens e g = record {
   cap = refl;
   more = [];
@@ -112,7 +112,7 @@ nothing_gained gens e g = record {
   awaited = λ ps h. h;
 }
 
-pub gained_twice : (gens : Gens) (e : ℕ) (a b c : Growing) → Gains gens e a b → Gains gens e b c → Gains gens e a c
+pub gained_twice : (gens : Gens) (e : ℕ) (a b c : Growing) → GainsVector gens e a b → GainsVector gens e b c → GainsVector gens e a c
 gained_twice gens e a b c x y = record {
   cap = y.cap ∙ x.cap;
   more = x.more ++ y.more;
@@ -209,7 +209,7 @@ module _ (gens : Gens) (e : ℕ) (low : e ≤ 1000) (prime : IsPrime gens.prime)
 
 -- a pair of higher degree waits
 pub waits_on : (gens : Gens) (e : ℕ) (old new : Growing) (q : Pair) → new.cap ≡ old.cap → new.basis.items ≡ old.basis.items → new.pairs.items ≡ old.pairs.items ++ q ∷ [] → e < q.degree
-    → Gains gens e old new
+    → GainsVector gens e old new
 waits_on gens e old new q c v p l = record {
   cap = c;
   more = [];

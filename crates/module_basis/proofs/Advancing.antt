@@ -18,7 +18,7 @@ use Rattle.module_division.specs.Vectors.{member}
 use Rattle.module_basis.specs.declared.gens.Gens.{Gens}
 use Rattle.module_basis.specs.declared.growing.Growing.{Growing}
 use Rattle.module_basis.specs.declared.pairs.Pair.{Pair}
-use Rattle.module_basis.specs.Growing.{pair_degree, pair_of, AreOfOneComponent, IsPair, AreAwaited, IsGrowing, IsReady, Gains}
+use Rattle.module_basis.specs.Growing.{pair_degree, pair_of, AreOfOneComponent, IsPair, AreAwaited, IsGrowing, MayGrow, GainsVector}
 use Rattle.module_division.proofs.Lists.{count_lists, lists_append}
 use Rattle.module_basis.proofs.Growth.{pair_more}
 use Rattle.module_basis.proofs.Joining.{all_generators}
@@ -38,7 +38,7 @@ generator_in gens are prime k v h e =
     in_generator gens.prime gens.variables (terms_of gens.vectors) v.terms (above_one gens.prime prime) (λ k d i. (all_generators gens are k d i).vector) (k, omega arith, at)
 
 -- the generators are taken in
-pub ready_still : (gens : Gens) (e : ℕ) (old new : Growing) → IsReady gens e old → IsGrowing gens e new → Gains gens e old new → IsReady gens e new
+pub ready_still : (gens : Gens) (e : ℕ) (old new : Growing) → MayGrow gens e old → IsGrowing gens e new → GainsVector gens e old new → MayGrow gens e new
 ready_still gens e old new r growing g = record {
   growing = growing;
   late = subst (All (λ q. e ≤ q.degree)) (sym g.pairs)
@@ -53,7 +53,7 @@ pub ready_next : (gens : Gens) (e cap : ℕ) (mid new : Growing) → IsPrime gen
     → ((b : List Term) → Contains (terms_of mid.basis.items) b → Contains (terms_of new.basis.items) b)
     → All (λ q. e < q.degree) new.pairs.items → AreAwaited gens cap (terms_of new.basis.items) new.pairs.items (length new.basis.items)
     → ((f : List Term) → Contains (terms_of gens.vectors) f → degree_at gens.shift (lead_mono f) ≡ e → InModule gens.prime gens.variables (terms_of mid.basis.items) f)
-    → IsReady gens (e + 1) new
+    → MayGrow gens (e + 1) new
 ready_next gens e cap mid new prime growing q larger late awaited members = record {
   growing = record {
     primes = growing.primes;
@@ -110,7 +110,7 @@ ready_next gens e cap mid new prime growing q larger late awaited members = reco
 
 -- one more pair was gone through
 pub gone_on : (gens : Gens) (e cap k : ℕ) (now new : Growing) (waiting : List Pair) (q : Pair) → k < length waiting → q ≡ get_or waiting k q → now.cap ≡ cap
-    → AreAwaited gens cap (terms_of now.basis.items) (now.pairs.items ++ drop k waiting) (length now.basis.items) → Gains gens e now new
+    → AreAwaited gens cap (terms_of now.basis.items) (now.pairs.items ++ drop k waiting) (length now.basis.items) → GainsVector gens e now new
     → IsSettled gens.prime gens.variables gens.shift (terms_of new.basis.items) (member (terms_of new.basis.items) q.first) (member (terms_of new.basis.items) q.second) ⊎ Contains new.pairs.items q
     → AreAwaited gens cap (terms_of new.basis.items) (new.pairs.items ++ drop (k + 1) waiting) (length new.basis.items)
 gone_on gens e cap k now new waiting q h eq c a g done =
@@ -119,7 +119,7 @@ gone_on gens e cap k now new waiting q h eq c a g done =
     (subst (λ x. AreAwaited gens x (terms_of new.basis.items) (new.pairs.items ++ drop k waiting) (length new.basis.items)) c
     (g.awaited (drop k waiting) (subst (λ x. AreAwaited gens x (terms_of now.basis.items) (now.pairs.items ++ drop k waiting) (length now.basis.items)) (sym c) a))))
 
-pub pairs_still : (gens : Gens) (e : ℕ) (now new : Growing) (waiting : List Pair) → Gains gens e now new → All (IsPair gens.shift (terms_of now.basis.items)) waiting
+pub pairs_still : (gens : Gens) (e : ℕ) (now new : Growing) (waiting : List Pair) → GainsVector gens e now new → All (IsPair gens.shift (terms_of now.basis.items)) waiting
     → All (IsPair gens.shift (terms_of new.basis.items)) waiting
 pairs_still gens e now new waiting g h =
     All-weaker (IsPair gens.shift (terms_of now.basis.items)) (IsPair gens.shift (terms_of new.basis.items))

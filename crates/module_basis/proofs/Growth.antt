@@ -1,24 +1,21 @@
 -- One more vector of a growing basis.
-use Rattle.std.proofs.Common.{◌≡◌, ◌≢◌, inl, inr, ℕ, ◌+◌, ◌*◌, ◌%◌, ◌<◌, ◌≤◌, zero, suc, List, [], ◌∷◌, ◌++◌, map, length, get_or, refl, sym, ap, ◌∙◌, subst, arith, length-append, mul-le-mul_right}
+use Rattle.std.proofs.Common.{◌≡◌, ◌≢◌, inl, inr, ℕ, ◌+◌, ◌*◌, ◌%◌, ◌<◌, ◌≤◌, List, [], ◌∷◌, ◌++◌, length, get_or, refl, sym, ap, ◌∙◌, subst, arith, length-append, mul-le-mul_right}
 use Rattle.std.specs.List.{All, Contains}
 use Rattle.std.specs.declared.cmp.Ordering.TheVariants.{Less, Equal, Greater}
 use Rattle.std.specs.declared.cmp.Ordering.{Ordering}
 use Rattle.std.specs.Ordering.{nat_cmp, ordering_then}
 use Rattle.std.specs.Cmp.{ranked}
 use native.Mathlib.Nat.{mod-eq_of_lt}
-use Rattle.std.proofs.Math.ListN.{get_or-append}
-use Rattle.std.proofs.lemmas.List.{map-append, get_or-map}
-use Rattle.std.proofs.lemmas.List.Elements.{All-push, All-map, Contains-get_or, Contains-append_left, Contains-push}
+use Rattle.std.proofs.lemmas.List.Elements.{All-push, Contains-get_or, Contains-append_left, Contains-push}
 use Rattle.std.proofs.lemmas.List.Quantifiers.{all_pairs_push}
 use Rattle.prime_field.specs.Primes.{IsPrime}
 use Rattle.monomials.specs.Mono.{Monomial, IsMono, Divides, total_degree, cmp_dp, cmp_last}
 use Rattle.polys.specs.declared.term.Term.{Term}
 use Rattle.polys.specs.Poly.{Polynomial, IsVector, terms_of}
-use Rattle.polys.specs.Terms.{IsCanonical, EachMono, IsMonic, IsMonicOf, add, sub, multiple}
+use Rattle.polys.specs.Terms.{EachMono, IsMonic, IsMonicOf, add, sub, multiple}
 use Rattle.polys.proofs.Each.{every_more, every_zip, every_multiple}
 use Rattle.polys.proofs.Units.{canonical_same}
 use Rattle.polys.proofs.Sums.{add_comm}
-use Rattle.polys.proofs.Products.{times_residue, multiple_by_residue}
 use Rattle.graded_modules.specs.Vector.{IsGraded, IsGradedVector, IsGenerator, IsOfDegree, degree_at, lead_mono}
 use Rattle.graded_modules.specs.Module.{InModule, IsLeadMultiple}
 use Rattle.graded_modules.specs.SVector.{IsSumBelow, IsSettled, lead_lcm, s_vector}
@@ -28,7 +25,7 @@ use Rattle.graded_modules.proofs.Members.{in_add, in_sub, in_multiple, in_genera
 use Rattle.graded_modules.proofs.Settled.{settled_law, unscaled}
 use Rattle.graded_modules.proofs.SVectors.{same_degrees}
 use Rattle.prime_field.proofs.Table.{positive_of_prime as positive, above_one}
-use Rattle.ideal_laws.proofs.Multiples.{multiple_multiple, multiple_residue, multiple_one, multiple_zero}
+use Rattle.ideal_laws.proofs.Multiples.{multiple_multiple, multiple_residue, multiple_one}
 use Rattle.ideal_laws.proofs.Differences.{from_sub, to_sub, sub_none}
 use Rattle.graded_modules.proofs.Tops.{tail_below}
 use Rattle.module_division.specs.Vectors.{member}
@@ -37,7 +34,7 @@ use Rattle.module_basis.specs.declared.growing.Growing.{Growing}
 use Rattle.module_basis.specs.declared.pairs.Pair.{Pair}
 use Rattle.module_division.specs.Division.{IsDivisor, Reduces}
 use Rattle.module_basis.specs.Growing.{pair_degree, pair_of, AreOfOneComponent, IsPair, IsSettledPair, IsAwaited, IsGrown, IsGrowing, IsMemberAt, IsNewAt, IsBelowAll}
-use Rattle.module_division.proofs.Lists.{count_lists, place_of, member_left, divisor_vectors, lists_append, contains_more}
+use Rattle.module_division.proofs.Lists.{place_of, member_left}
 use Rattle.module_division.proofs.Reductions.{IsTight, IsGradedRemainder, graded_remainder}
 
 -- ---- homogeneous vectors of low degree

@@ -4,6 +4,7 @@ use Rattle.std.specs.List.{All, Contains}
 use Rattle.std.proofs.lemmas.Bool.{cases_lt}
 use Rattle.std.proofs.Math.Nat.{eq-or-lt_of_le}
 use Rattle.std.proofs.lemmas.List.Elements.{All-push, All-append, All-nil, All-map, All-cons}
+use Rattle.monomials.proofs.Factors.{divides_self}
 use Rattle.prime_field.specs.Primes.{IsPrime}
 use Rattle.monomials.specs.Mono.{Monomial, Divides, total_degree, common_multiple}
 use Rattle.polys.specs.declared.term.Term.{Term}
@@ -26,9 +27,6 @@ use Rattle.module_division.proofs.Lists.{member_is, member_in}
 
 pub all_generators : (gens : Gens) → AreGens gens → All (IsGenerator gens.prime gens.variables gens.shift) (terms_of gens.vectors)
 all_generators gens h = All-map (IsGenerator gens.prime gens.variables gens.shift) (λ (f : Polynomial). f.terms) gens.vectors (λ k d i. (h.vectors k d i).vector)
-
-divides_self : (m : Monomial) → Divides m m
-divides_self m = record { same = refl; none_greater = λ i. omega arith }
 
 module _ (gens : Gens) (are : AreGens gens) (prime : IsPrime gens.prime) (e cap : ℕ) (low : e ≤ cap) (bs : List (List Term)) (grown : IsGrown gens e bs)
     (i j : ℕ) (rising : i < j) (inside : j < length bs) (last : degree_at gens.shift (lead_mono (member bs j)) ≡ e) (one : AreOfOneComponent bs i j) where

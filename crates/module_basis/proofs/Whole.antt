@@ -25,7 +25,7 @@ use Rattle.module_basis.specs.declared.growing.Growing.{Growing}
 use Rattle.module_basis.specs.Basis.{IsBasis, IsHigh}
 use Rattle.module_division.specs.Division.{IsDivisor, Reduces}
 use Rattle.module_division.specs.Reduction.{IsInterreduced}
-use Rattle.module_basis.specs.Growing.{pair_degree, IsPair, IsGrown, IsReady}
+use Rattle.module_basis.specs.Growing.{pair_degree, IsPair, IsGrown, MayGrow}
 use Rattle.module_division.proofs.Lists.{count_lists, divisor_vectors, place_of}
 use Rattle.module_basis.proofs.Growth.{divisor_of}
 use Rattle.module_basis.proofs.Joining.{all_generators}
@@ -33,7 +33,7 @@ use Rattle.module_division.proofs.Reductions.{graded_remainder, each_at}
 use Rattle.module_division.proofs.Reduced.{monic_all, covered, rising_all, apart_all, outside_all, generators_all, members_all, low_all}
 
 -- nothing is done
-pub ready_first : (gens : Gens) (g : Growing) → g.basis.items ≡ [] → g.pairs.items ≡ [] → IsReady gens 0 g
+pub ready_first : (gens : Gens) (g : Growing) → g.basis.items ≡ [] → g.pairs.items ≡ [] → MayGrow gens 0 g
 ready_first gens g b ps = record {
   growing = record {
     primes = subst (All (λ f. f.prime ≡ gens.prime)) (sym b) (All-nil (λ f. f.prime ≡ gens.prime));
@@ -61,7 +61,7 @@ pub record IsAnswer (gens : Gens) (cap : ℕ) (qs : List Polynomial) : Type 0 wh
   pub not_deep : IsDeep gens.prime gens.variables gens.shift (terms_of gens.vectors) cap → ⊥
   pub low : All (λ b. degree_at gens.shift (lead_mono b) ≤ cap) (terms_of qs)
 
-pub answered : (gens : Gens) → AreGens gens → IsPrime gens.prime → (cap e : ℕ) → cap ≤ 1000 → (g : Growing) → IsReady gens e g → e ≡ cap + 1 → g.cap ≡ cap
+pub answered : (gens : Gens) → AreGens gens → IsPrime gens.prime → (cap e : ℕ) → cap ≤ 1000 → (g : Growing) → MayGrow gens e g → e ≡ cap + 1 → g.cap ≡ cap
     → (HasHighVector gens.shift (terms_of gens.vectors) cap → ⊥) → All (λ b. degree_at gens.shift (lead_mono b) ≤ cap) (terms_of g.basis.items)
     → (qs : List Polynomial) → IsInterreduced gens.prime (terms_of g.basis.items) qs → IsAnswer gens cap qs
 answered gens are prime cap e small g ready last c high low qs h =
@@ -146,7 +146,7 @@ none_high shift cap vs none (t, f, (k, l, e), h) =
     none k D (omega arith) (t, f, sym (get_or-map (λ (g : Polynomial). g.terms) vs k D (t ∷ f) (omega arith)) ∙ e, h)
 
 -- the vectors of low degree divide
-pub last_divisors : (gens : Gens) (e cap : ℕ) (g : Growing) → cap ≤ 1000 → IsReady gens e g → All (λ b. degree_at gens.shift (lead_mono b) ≤ cap) (terms_of g.basis.items) → All (IsDivisor gens.prime) g.basis.items
+pub last_divisors : (gens : Gens) (e cap : ℕ) (g : Growing) → cap ≤ 1000 → MayGrow gens e g → All (λ b. degree_at gens.shift (lead_mono b) ≤ cap) (terms_of g.basis.items) → All (IsDivisor gens.prime) g.basis.items
 last_divisors gens e cap g small ready low k d l =
     let fs = g.basis.items in
     let b = ready.growing.grown.below in

@@ -1,5 +1,6 @@
 -- Generators of a graded module, as data of the program.
 use Rattle.std.specs.Prelude.{◌≡◌, ℕ, ◌-◌, ◌≤◌, All}
+use Rattle.monomials.specs.declared.mono.TheConstants.{MAX_VARIABLES}
 use Rattle.polys.specs.declared.term.Term.{Term}
 use Rattle.polys.specs.Poly.{Polynomial}
 use Rattle.monomials.specs.Mono.{total_degree}
@@ -15,7 +16,7 @@ pub record IsHomogeneousOver (p n shift : ℕ) (f : Polynomial) : Type 0 where
 -- 1 to 6 variables, and homogeneous vectors over the prime
 pub record AreGens (gens : Gens) : Type 0 where
   pub some_variables : 1 ≤ gens.variables
-  pub six_variables : gens.variables ≤ 6
+  pub six_variables : gens.variables ≤ MAX_VARIABLES
   pub vectors : All (IsHomogeneousOver gens.prime gens.variables gens.shift) gens.vectors
 
 -- the term lifted to the degree by a power of the homogenising variable

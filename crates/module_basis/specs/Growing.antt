@@ -59,7 +59,7 @@ pub record IsGrowing (gens : Gens) (e : ℕ) (g : Growing) : Type 0 where
   pub pairs : All (IsPair gens.shift (terms_of g.basis.items)) g.pairs.items
 
 -- all of degree below e is done, and the pairs of degree e or more wait
-pub record IsReady (gens : Gens) (e : ℕ) (g : Growing) : Type 0 where
+pub record MayGrow (gens : Gens) (e : ℕ) (g : Growing) : Type 0 where
   pub growing : IsGrowing gens e g
   pub late : All (λ q. e ≤ q.degree) g.pairs.items
   pub awaited : AreAwaited gens g.cap (terms_of g.basis.items) g.pairs.items (length g.basis.items)
@@ -73,7 +73,7 @@ pub record GainsPairs (e : ℕ) (old new : Growing) : Type 0 where
   pub late : All (λ q. e < q.degree) more
 
 -- vectors and pairs of degree above e are added, so that each two members that were awaited still are, whatever else waits
-pub record Gains (gens : Gens) (e : ℕ) (old new : Growing) : Type 0 where
+pub record GainsVector (gens : Gens) (e : ℕ) (old new : Growing) : Type 0 where
   pub cap : new.cap ≡ old.cap
   pub more : List Polynomial
   pub vectors : new.basis.items ≡ old.basis.items ++ more

@@ -1,5 +1,6 @@
 // Reduced bases of graded modules.
 ghost use Rattle.std.specs.Prelude.{◌≡◌, ◌↔◌, ◌≤◌, ℕ, map, All, IsTrue, IfOk, IfErr};
+ghost use Rattle.monomials.specs.declared.mono.TheConstants.{MAX_VARIABLES};
 ghost use Rattle.monomials.specs.Mono.{IsMono};
 ghost use Rattle.polys.specs.Curve.{IsOver};
 ghost use Rattle.polys.specs.Poly.{IsPlain, IsVector, terms_of};
@@ -182,7 +183,7 @@ fn all_lowered(
     variables: u32,
     vectors: &[Poly],
 ) -> Result<Vec<Poly>, NoMemory>
-    requires six_variables { variables ≤ 6 }
+    requires six_variables { variables ≤ MAX_VARIABLES }
     requires homogeneous { All (IsHomogeneousPoly prime variables) (terms_of vectors.now) }
     ensures value { IfOk result (λ fs. fs.items ≡ map (lowered_of prime) vectors.now) }
     ensures known { IfOk result (λ fs. All (λ f. IsVector prime f.terms) fs.items) }
@@ -202,7 +203,7 @@ fn with_variable_one(
     variables: u32,
     f: &Poly,
 ) -> Result<Poly, NoMemory>
-    requires six_variables { variables ≤ 6 }
+    requires six_variables { variables ≤ MAX_VARIABLES }
     requires homogeneous { IsHomogeneousPoly prime variables f.now.terms }
     ensures value { IfOk result (λ g. g ≡ lowered_of prime f.now) }
     ensures known { IfOk result (λ g. IsVector prime g.terms) }

@@ -1,5 +1,6 @@
 // Generators of a graded module.
 ghost use Rattle.std.specs.Prelude.{◌≡◌, ◌≤◌, IfOk, All, map};
+ghost use Rattle.monomials.specs.declared.mono.TheConstants.{MAX_VARIABLES, MAX_DEGREE};
 ghost use Rattle.monomials.specs.Mono.{total_degree};
 ghost use Rattle.polys.specs.Curve.{IsOver};
 ghost use Rattle.polys.specs.Poly.{IsPlain, terms_of};
@@ -66,7 +67,7 @@ impl Gens {
         ideal: &[Poly],
     ) -> Result<Gens, NoMemory>
         requires some_variables { 1 ≤ variables }
-        requires six_variables { variables ≤ 6 }
+        requires six_variables { variables ≤ MAX_VARIABLES }
         requires ideal { All (IsOver prime variables) ideal.now }
         ensures ring { IfOk result (λ gens. (gens.prime ≡ prime) × (gens.variables ≡ variables) × (gens.shift ≡ 0)) }
         ensures vectors { IfOk result (λ gens. terms_of gens.vectors ≡ all_homogenised (terms_of ideal.now)) }
@@ -89,7 +90,7 @@ impl Gens {
 
 // The homogenised polynomial.
 fn homogenised_poly(alloc: Global, prime: Prime, variables: u32, f: &Poly) -> Result<Poly, NoMemory>
-    requires six_variables { variables ≤ 6 }
+    requires six_variables { variables ≤ MAX_VARIABLES }
     requires poly { IsOver prime variables f.now }
     ensures { IfOk result (λ g. g ≡ homogenised_of prime f.now) }
 {
@@ -107,7 +108,7 @@ fn homogenised_poly(alloc: Global, prime: Prime, variables: u32, f: &Poly) -> Re
 // The term lifted to the degree.
 fn lifted_term(t: &Term, degree: u32) -> Term
     requires low { total_degree t.now.mono.exponents ≤ degree }
-    requires bounded { degree ≤ 60000 }
+    requires bounded { degree ≤ MAX_DEGREE }
     ensures { result ≡ lifted degree t.now }
 {
     let room = degree - t.mono.degree();

@@ -7,12 +7,13 @@ ghost use Rattle.module_basis.specs.declared.gens.BasisStop.TheVariants.{Deep};
 ghost use Rattle.module_basis.specs.Gens.{AreGens, IsHomogeneousOver};
 ghost use Rattle.polys.specs.Poly.{terms_of};
 ghost use Rattle.module_division.specs.Vectors.{member};
-ghost use Rattle.module_basis.specs.Growing.{AreOfOneComponent, IsPair, IsSettledPair, IsAwaited, AreAwaited, IsGrowing, IsReady, GainsPairs, Gains, IsMemberAt, IsNewAt, IsBelowAll, HasHighLeads};
+ghost use Rattle.module_basis.specs.Growing.{AreOfOneComponent, IsPair, IsSettledPair, IsAwaited, AreAwaited, IsGrowing, MayGrow, GainsPairs, GainsVector, IsMemberAt, IsNewAt, IsBelowAll, HasHighLeads};
 
+use crate::columns::columns_for;
 use crate::pairs::{Pair, are_coprime, is_chained, s_vector};
 use crate::{BasisStop, Cap, Gens};
 use lists::NoMemory;
-use module_division::{degree_at, lead_mono, vector_remainder};
+use module_division::{Columns, degree_at, lead_mono};
 use monomials::Mono;
 use polys::{Poly, Term};
 use std::alloc::Global;
@@ -44,8 +45,8 @@ impl Growing {
     pub(crate) fn advance(&mut self, gens: &Gens, e: u32) -> Result<(), BasisStop>
         requires gens { AreGens gens.now }
         requires degree { e ≤ self.old.cap }
-        requires ready { IsReady gens.now e self.old }
-        ensures ready { OnOk result (IsReady gens.now (e + 1) self.new) }
+        requires ready { MayGrow gens.now e self.old }
+        ensures ready { OnOk result (MayGrow gens.now (e + 1) self.new) }
         ensures low { OnOk result (All (λ b. degree_at gens.now.shift (lead_mono b) ≤ e) (terms_of self.new.basis.items)) }
         ensures cap { OnOk result (self.new.cap ≡ self.old.cap) }
         ensures deep { IfErr result (λ stop. stop ≡ Deep → HasHighLeads gens.now self.old.cap) }
@@ -62,27 +63,34 @@ impl Growing {
         requires degree { e ≤ self.old.cap }
         requires growing { IsGrowing gens.now e self.old }
         ensures growing { OnOk result (IsGrowing gens.now e self.new) }
-        ensures gains { OnOk result (Gains gens.now e self.old self.new) }
+        ensures gains { OnOk result (GainsVector gens.now e self.old self.new) }
         ensures members { OnOk result ((f : List Term) → Contains (terms_of gens.now.vectors) f → degree_at gens.now.shift (lead_mono f) ≡ e → InModule gens.now.prime gens.now.variables (terms_of self.new.basis.items) f) }
         ensures deep { IfErr result (λ stop. stop ≡ Deep → HasHighLeads gens.now self.old.cap) }
     {
         let _prime = gens.prime.get();
+        let mut columns = Columns::none(*self.basis.allocator());
         let vectors = gens.vectors.as_slice();
         for k in 0..vectors.len() {
-            self.take_generator(gens, &vectors[k], e)?;
+            self.take_generator(gens, &mut columns, &vectors[k], e)?;
         }
         Ok(())
     }
 
     // Takes in the generator, if it has degree e.
-    fn take_generator(&mut self, gens: &Gens, v: &Poly, e: u32) -> Result<(), BasisStop>
+    fn take_generator(
+        &mut self,
+        gens: &Gens,
+        columns: &mut Columns,
+        v: &Poly,
+        e: u32,
+    ) -> Result<(), BasisStop>
         requires gens { AreGens gens.now }
         requires degree { e ≤ self.old.cap }
         requires growing { IsGrowing gens.now e self.old }
         requires vector { IsHomogeneousOver gens.now.prime gens.now.variables gens.now.shift v.now }
         requires member { InModule gens.now.prime gens.now.variables (terms_of gens.now.vectors) v.now.terms }
         ensures growing { OnOk result (IsGrowing gens.now e self.new) }
-        ensures gains { OnOk result (Gains gens.now e self.old self.new) }
+        ensures gains { OnOk result (GainsVector gens.now e self.old self.new) }
         ensures member { OnOk result (degree_at gens.now.shift (lead_mono v.now.terms) ≡ e → InModule gens.now.prime gens.now.variables (terms_of self.new.basis.items) v.now.terms) }
         ensures deep { IfErr result (λ stop. stop ≡ Deep → HasHighLeads gens.now self.old.cap) }
     {
@@ -90,7 +98,7 @@ impl Growing {
             return Ok(());
         }
         let terms = v.clone_poly()?.into_terms();
-        self.take(gens, terms, e)?;
+        self.take(gens, columns, terms, e)?;
         Ok(())
     }
 
@@ -98,7 +106,7 @@ impl Growing {
     fn settle_pairs(&mut self, gens: &Gens, e: u32) -> Result<(), BasisStop>
         requires gens { AreGens gens.now }
         requires degree { e ≤ self.old.cap }
-        requires ready { IsReady gens.now e self.old }
+        requires ready { MayGrow gens.now e self.old }
         ensures growing { OnOk result (IsGrowing gens.now e self.new) }
         ensures cap { OnOk result (self.new.cap ≡ self.old.cap) }
         ensures vectors { OnOk result ((b : List Term) → Contains (terms_of self.old.basis.items) b → Contains (terms_of self.new.basis.items) b) }
@@ -109,21 +117,28 @@ impl Growing {
         let _prime = gens.prime.get();
         let alloc = *self.pairs.allocator();
         let waiting = mem::replace(&mut self.pairs, Vec::new(alloc));
+        let mut columns = columns_for(alloc, gens, &self.basis, &waiting, e)?;
         for k in 0..waiting.len() {
-            self.go_through(gens, waiting[k], e)?;
+            self.go_through(gens, &mut columns, waiting[k], e)?;
         }
         Ok(())
     }
 
     // Settles the pair, if it has degree e, or lets it go on waiting.
-    fn go_through(&mut self, gens: &Gens, pair: Pair, e: u32) -> Result<(), BasisStop>
+    fn go_through(
+        &mut self,
+        gens: &Gens,
+        columns: &mut Columns,
+        pair: Pair,
+        e: u32,
+    ) -> Result<(), BasisStop>
         requires gens { AreGens gens.now }
         requires low { e ≤ self.old.cap }
         requires growing { IsGrowing gens.now e self.old }
         requires pair { IsPair gens.now.shift (terms_of self.old.basis.items) pair }
         requires degree { e ≤ pair.degree }
         ensures growing { OnOk result (IsGrowing gens.now e self.new) }
-        ensures gains { OnOk result (Gains gens.now e self.old self.new) }
+        ensures gains { OnOk result (GainsVector gens.now e self.old self.new) }
         ensures done { OnOk result (IsSettledPair gens.now (terms_of self.new.basis.items) pair.first pair.second ⊎ Contains self.new.pairs.items pair) }
         ensures deep { IfErr result (λ stop. stop ≡ Deep → HasHighLeads gens.now self.old.cap) }
     {
@@ -131,19 +146,25 @@ impl Growing {
             self.wait(pair)?;
             return Ok(());
         }
-        self.settle(gens, pair, e)?;
+        self.settle(gens, columns, pair, e)?;
         Ok(())
     }
 
     // Settles the pair of degree e, unless a criterion says that it is.
-    fn settle(&mut self, gens: &Gens, pair: Pair, e: u32) -> Result<(), BasisStop>
+    fn settle(
+        &mut self,
+        gens: &Gens,
+        columns: &mut Columns,
+        pair: Pair,
+        e: u32,
+    ) -> Result<(), BasisStop>
         requires gens { AreGens gens.now }
         requires low { e ≤ self.old.cap }
         requires growing { IsGrowing gens.now e self.old }
         requires pair { IsPair gens.now.shift (terms_of self.old.basis.items) pair }
         requires degree { pair.degree ≡ e }
         ensures growing { OnOk result (IsGrowing gens.now e self.new) }
-        ensures gains { OnOk result (Gains gens.now e self.old self.new) }
+        ensures gains { OnOk result (GainsVector gens.now e self.old self.new) }
         ensures settled { OnOk result (IsSettledPair gens.now (terms_of self.new.basis.items) pair.first pair.second) }
         ensures deep { IfErr result (λ stop. stop ≡ Deep → HasHighLeads gens.now self.old.cap) }
     {
@@ -153,18 +174,24 @@ impl Growing {
             return Ok(());
         }
         let s = s_vector(gens, &self.basis[pair.first], &self.basis[pair.second])?;
-        self.take(gens, s.into_terms(), e)?;
+        self.take(gens, columns, s.into_terms(), e)?;
         Ok(())
     }
 
     // Takes in what the basis leaves of a vector of degree e, unless that is 0.
-    fn take(&mut self, gens: &Gens, v: Vec<Term>, e: u32) -> Result<(), BasisStop>
+    fn take(
+        &mut self,
+        gens: &Gens,
+        columns: &mut Columns,
+        v: Vec<Term>,
+        e: u32,
+    ) -> Result<(), BasisStop>
         requires gens { AreGens gens.now }
         requires degree { e ≤ self.old.cap }
         requires growing { IsGrowing gens.now e self.old }
         requires vector { IsMemberAt gens.now e v.items }
         ensures growing { OnOk result (IsGrowing gens.now e self.new) }
-        ensures gains { OnOk result (Gains gens.now e self.old self.new) }
+        ensures gains { OnOk result (GainsVector gens.now e self.old self.new) }
         ensures member { OnOk result (InModule gens.now.prime gens.now.variables (terms_of self.new.basis.items) v.items) }
         ensures below { OnOk result (IsBelowAll gens.now e (terms_of self.new.basis.items) v.items) }
         ensures deep { IfErr result (λ stop. stop ≡ Deep → HasHighLeads gens.now self.old.cap) }
@@ -172,7 +199,7 @@ impl Growing {
         let _prime = gens.prime.get();
         let _cap = self.cap.get();
         let alloc = *self.basis.allocator();
-        let rest = vector_remainder(alloc, gens.prime, v, &self.basis)?;
+        let rest = columns.remainder(alloc, gens.prime, v, &self.basis)?;
         if rest.is_empty() {
             return Ok(());
         }
@@ -188,7 +215,7 @@ impl Growing {
         requires growing { IsGrowing gens.now e self.old }
         requires fresh { IsNewAt gens.now e (terms_of self.old.basis.items) b }
         ensures growing { OnOk result (IsGrowing gens.now e self.new) }
-        ensures gains { OnOk result (Gains gens.now e self.old self.new) }
+        ensures gains { OnOk result (GainsVector gens.now e self.old self.new) }
         ensures vectors { OnOk result (self.new.basis.items ≡ self.old.basis.items ++ b ∷ []) }
         ensures deep { IfErr result (λ stop. stop ≡ Deep → HasHighLeads gens.now self.old.cap) }
     {

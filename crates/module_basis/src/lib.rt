@@ -3,6 +3,7 @@
 
 mod basis;
 mod cap;
+mod columns;
 mod gens;
 mod growing;
 mod pairs;

@@ -1,5 +1,6 @@
 // S-vectors of pairs, and the criteria that settle a pair without a division.
 ghost use Rattle.std.specs.Prelude.{◌≡◌, ◌↔◌, ◌+◌, ◌<◌, ◌≤◌, ℕ, [], ◌∷◌, length, All, IsTrue, IfOk};
+ghost use Rattle.monomials.specs.declared.mono.TheConstants.{MAX_DEGREE};
 ghost use Rattle.monomials.specs.Mono.{total_degree, common_multiple, Divides, IsMono};
 ghost use Rattle.polys.specs.Terms.{EachMono, IsMonic};
 ghost use Rattle.polys.specs.Poly.{IsVector, IsPlain, terms_of};
@@ -46,7 +47,7 @@ pub(crate) fn s_vector(gens: &Gens, f: &Poly, g: &Poly) -> Result<Poly, NoMemory
     requires left { IsDivisor gens.now.prime f.now }
     requires right { IsDivisor gens.now.prime g.now }
     requires one_component { (lead_mono f.now.terms).component ≡ (lead_mono g.now.terms).component }
-    requires room { total_degree (lead_lcm f.now.terms g.now.terms).exponents ≤ 60000 }
+    requires room { total_degree (lead_lcm f.now.terms g.now.terms).exponents ≤ MAX_DEGREE }
     ensures prime { IfOk result (λ s. s.prime ≡ gens.now.prime) }
     ensures value { IfOk result (λ s. s.terms ≡ s_vector gens.now.prime f.now.terms g.now.terms) }
 {

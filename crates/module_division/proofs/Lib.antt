@@ -13,3 +13,5 @@ mod Cores
 mod Tails
 mod Interreducing
 mod Standard
+mod RowTerms
+mod RowSteps

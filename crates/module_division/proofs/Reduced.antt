@@ -10,19 +10,17 @@ use Rattle.monomials.proofs.Order.{multiple_not_less}
 use Rattle.monomials.proofs.Factors.{divides_law, divides_trans}
 use Rattle.polys.specs.declared.term.Term.{Term}
 use Rattle.polys.specs.Poly.{Polynomial, IsVector, terms_of}
-use Rattle.polys.specs.Terms.{IsCanonical, EachMono, IsMonic, IsPoly, sub}
+use Rattle.polys.specs.Terms.{EachMono, IsMonic, IsPoly, sub}
 use Rattle.polys.specs.Reduced.{leads, lower_monos}
 use Rattle.polys.specs.Ideal.{InIdeal}
 use Rattle.ideal_laws.proofs.Ideals.{in_sub}
 use Rattle.polys.proofs.Affine.{poly_sub}
-use Rattle.polys.proofs.Sums.{add_comm}
-use Rattle.polys.proofs.Units.{canonical_same}
 use Rattle.graded_modules.specs.Vector.{IsGradedVector, IsGenerator, IsOfDegree, degree_at, lead_mono}
 use Rattle.graded_modules.specs.Module.{InModule, IsLeadMultiple}
 use Rattle.graded_modules.specs.Bases.{AreApart}
 use Rattle.graded_modules.proofs.Members as Modules
 use Rattle.prime_field.proofs.Table.{positive_of_prime as positive}
-use Rattle.ideal_laws.proofs.Differences.{from_sub, to_sub, sub_cons, less_difference}
+use Rattle.ideal_laws.proofs.Differences.{sub_cons, less_difference}
 use Rattle.module_division.specs.Vectors.{member}
 use Rattle.module_division.specs.Reduction.{IsInterreduced}
 use Rattle.module_division.proofs.Lists.{count_lists}

@@ -4,3 +4,4 @@ pub mod Division
 pub mod Ideals
 -- steps of the code
 pub mod Reduction
+pub mod Rows

@@ -1,5 +1,6 @@
 // Polynomials divided by monic ones, and standard bases of ideals reduced.
 ghost use Rattle.std.specs.Prelude.{◌≤◌, ◌≡◌, ℕ, All, IfOk};
+ghost use Rattle.monomials.specs.declared.mono.TheConstants.{MAX_VARIABLES};
 ghost use Rattle.module_division.specs.Ideals.{IsMonicStandardBasis, IsDivisionRemainder};
 ghost use Rattle.polys.specs.Poly.{terms_of, IsVector};
 ghost use Rattle.polys.specs.Curve.{IsOver};
@@ -35,7 +36,7 @@ pub fn interreduced(
     members: &[Poly],
 ) -> Result<List<Poly>, NoMemory>
     requires some_variables { 1 ≤ variables }
-    requires six_variables { variables ≤ 6 }
+    requires six_variables { variables ≤ MAX_VARIABLES }
     requires standard { IsMonicStandardBasis prime variables members.now }
     ensures over { IfOk result (λ ds. All (IsOver prime variables) ds) }
     ensures basis { IfOk result (λ ds. IsReducedBasis prime variables (InIdeal prime variables (terms_of members.now)) (terms_of ds)) }
@@ -54,7 +55,7 @@ pub fn interreduced(
 /// Greuel and Pfister, section on normal forms.
 pub fn remainder(variables: u32, v: &Poly, divisors: &[Poly]) -> Result<Poly, NoMemory>
     requires some_variables { 1 ≤ variables }
-    requires six_variables { variables ≤ 6 }
+    requires six_variables { variables ≤ MAX_VARIABLES }
     requires poly { IsPoly v.now.prime variables v.now.terms }
     requires divisors { All (IsOver v.now.prime variables) divisors.now }
     requires monic { All IsMonic (terms_of divisors.now) }

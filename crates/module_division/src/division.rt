@@ -1,5 +1,6 @@
 // The full division of a vector by monic ones.
 ghost use Rattle.std.specs.Prelude.{◌≡◌, ◌+◌, ◌<◌, ◌≤◌, [], ◌∷◌, ◌++◌, length, map, All, IfOk, OnOk, MatchOption, slice_index_or};
+ghost use Rattle.monomials.specs.declared.mono.TheConstants.{MAX_DEGREE};
 ghost use Rattle.monomials.specs.Mono.{total_degree, Divides, IsMono};
 ghost use Rattle.prime_field.specs.Primes.{IsPrime};
 ghost use Rattle.polys.specs.Terms.{EachMono, add, mul, degree_of};
@@ -33,7 +34,7 @@ fn term_product(p: Prime, u: &Term, t: &Term) -> Term
     requires left { u.now.coeff < p }
     requires right { t.now.coeff < p }
     requires plain { IsPlain t.now.mono }
-    requires room { total_degree u.now.mono.exponents + total_degree t.now.mono.exponents ≤ 60000 }
+    requires room { total_degree u.now.mono.exponents + total_degree t.now.mono.exponents ≤ MAX_DEGREE }
     ensures { result ≡ term_product p t.now u.now }
 {
     Term {
@@ -52,7 +53,7 @@ fn append_multiple(
     requires terms { IsVector p terms.now }
     requires residue { t.now.coeff < p }
     requires plain { IsPlain t.now.mono }
-    requires room { degree_of terms.now + total_degree t.now.mono.exponents ≤ 60000 }
+    requires room { degree_of terms.now + total_degree t.now.mono.exponents ≤ MAX_DEGREE }
     ensures { OnOk result (out.new.items ≡ out.old.items ++ map (term_product p t.now) terms.now) }
 {
     for u in terms {
@@ -61,31 +62,18 @@ fn append_multiple(
     Ok(())
 }
 
-// Writes a + t b into `out`, by one merge that takes one step for each term of both.
-fn add_multiple(
-    p: Prime,
-    a: &[Term],
-    t: &Term,
-    b: &[Term],
-    out: &mut Vec<Term>,
-) -> Result<(), AllocError>
-    requires prime { IsPrime p }
+// Writes a + b into `out`, by one merge that takes one step for each term of both.
+fn merge_sum(p: Prime, a: &[Term], b: &[Term], out: &mut Vec<Term>) -> Result<(), AllocError>
     requires left { IsVector p a.now }
     requires right { IsVector p b.now }
-    requires residue { t.now.coeff < p }
-    requires not_zero { 0 < t.now.coeff }
-    requires mono { IsMono t.now.mono }
-    requires plain { IsPlain t.now.mono }
-    requires room { degree_of b.now + total_degree t.now.mono.exponents ≤ 60000 }
-    ensures value { OnOk result (out.new.items ≡ add p a.now (mul p b.now (t.now ∷ []))) }
-    ensures known { OnOk result (IsVector p out.new.items) }
+    ensures { OnOk result (out.new.items ≡ add p a.now b.now) }
 {
     out.clear();
     let mut i: usize = 0;
     let mut j: usize = 0;
     while i < a.len() && j < b.len() {
         let s = a[i];
-        let u = term_product(p, &b[j], t);
+        let u = b[j];
         match Mono::cmp_dp(&s.mono, &u.mono) {
             Ordering::Greater => {
                 out.push(s)?;
@@ -109,15 +97,41 @@ fn add_multiple(
         }
     }
     out.extend_from_slice(&a[i..])?;
-    append_multiple(p, t, &b[j..], out)?;
+    out.extend_from_slice(&b[j..])?;
+    Ok(())
+}
+
+// Writes t b into `product`, and a + t b into `out`.
+fn add_multiple(
+    p: Prime,
+    a: &[Term],
+    t: &Term,
+    b: &[Term],
+    product: &mut Vec<Term>,
+    out: &mut Vec<Term>,
+) -> Result<(), AllocError>
+    requires prime { IsPrime p }
+    requires left { IsVector p a.now }
+    requires right { IsVector p b.now }
+    requires residue { t.now.coeff < p }
+    requires not_zero { 0 < t.now.coeff }
+    requires mono { IsMono t.now.mono }
+    requires plain { IsPlain t.now.mono }
+    requires room { degree_of b.now + total_degree t.now.mono.exponents ≤ MAX_DEGREE }
+    ensures value { OnOk result (out.new.items ≡ add p a.now (mul p b.now (t.now ∷ []))) }
+    ensures known { OnOk result (IsVector p out.new.items) }
+{
+    product.clear();
+    append_multiple(p, t, b, product)?;
+    merge_sum(p, a, product, out)?;
     Ok(())
 }
 
 /// What is left of the vector `v` when the leads of the divisors divide no monomial any more. The divisors are monic, and
 /// no monomial of one has more degree than its lead, with unit vectors not counted.
 ///
-/// It works in two buffers. Each step takes away one monomial: it looks at the divisors' leads until one divides it, and
-/// then merges what is left with a multiple of that divisor, one step for each term of both.
+/// It works in three buffers. Each step takes away one monomial: it looks at the divisors' leads until one divides it, and
+/// then makes a multiple of that divisor and merges what is left with it, one step for each term of both.
 ///
 /// Greuel and Pfister, section on normal forms.
 pub fn vector_remainder(
@@ -135,6 +149,7 @@ pub fn vector_remainder(
     let _prime = p.get();
     let mut rest = v;
     let mut next = Vec::new(alloc);
+    let mut product = Vec::new(alloc);
     let mut out = Vec::new(alloc);
     let mut i: usize = 0;
     while i < rest.len() {
@@ -150,7 +165,8 @@ pub fn vector_remainder(
                     coeff: p.neg(t.coeff),
                     mono: Mono::quotient(&t.mono, &lead_mono(b)),
                 };
-                add_multiple(p, &rest[i..], &factor, b.terms(), &mut next)?;
+                let left = &rest[i..];
+                add_multiple(p, left, &factor, b.terms(), &mut product, &mut next)?;
                 mem::swap(&mut rest, &mut next);
                 i = 0;
             }

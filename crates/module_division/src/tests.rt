@@ -3,7 +3,7 @@ ghost use Rattle.std.specs.Prelude.{◌≡◌, All, IsTrue, IfOk};
 ghost use Rattle.module_division.specs.Division.{IsDivisor};
 ghost use Rattle.polys.specs.Terms.{IsMonic};
 
-use crate::{interreduced_vectors, lead_mono, vector_remainder};
+use crate::{Columns, interreduced_vectors, lead_mono, vector_remainder};
 use lists::List;
 use monomials::Mono;
 use polys::{Poly, Term};
@@ -116,6 +116,42 @@ fn divisions(rt: HostRuntime) -> Result<(), Fail> {
     ];
     for (i, (v, by, rest)) in table.iter().enumerate() {
         assert!(rt; leaves(rt.alloc(), v, by, rest)?, "row {i}");
+    }
+    Ok(())
+}
+
+// Whether the division by rows over the monomials of the degree in x and y leaves these terms.
+fn leaves_by_rows(
+    alloc: Global,
+    degree: u32,
+    v: &[Row],
+    by: Rows,
+    rest: &[Row],
+) -> Result<bool, Fail> {
+    let p = Prime::new(7).ok_or("7 is in the table")?;
+    let fs = divisors(alloc, p, by)?;
+    let terms = polynomial(alloc, p, v)?.into_terms();
+    let mut columns = Columns::of_degree(alloc, 2, None, degree, 1000)?;
+    let left = columns.remainder(alloc, p, terms, fs.as_slice())?;
+    Ok(has_rows(&left, rest))
+}
+
+// The third vector has another degree than the columns.
+#[test]
+fn divisions_by_rows(rt: HostRuntime) -> Result<(), Fail> {
+    let one: Rows = &[&[(1, 2, 0), (6, 0, 2)]];
+    let two: Rows = &[&[(1, 2, 0), (1, 1, 1)], &[(1, 0, 3)]];
+    let table: [(u32, &[Row], Rows, &[Row]); 4] = [
+        (3, &[(1, 3, 0), (1, 1, 2)], one, &[(2, 1, 2)]),
+        (4, &[(3, 4, 0), (5, 0, 4)], one, &[(1, 0, 4)]),
+        (4, &[(1, 3, 0), (1, 1, 2)], one, &[(2, 1, 2)]),
+        (4, &[(1, 4, 0), (2, 1, 3)], two, &[]),
+    ];
+    for (i, (degree, v, by, rest)) in table.iter().enumerate() {
+        assert!(rt;
+            leaves_by_rows(rt.alloc(), *degree, v, by, rest)?,
+            "row {i}"
+        );
     }
     Ok(())
 }

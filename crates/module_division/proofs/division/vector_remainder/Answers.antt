@@ -9,7 +9,7 @@ use Rattle.polys.proofs.Merge.{left_at}
 use Rattle.module_division.proofs.Rank.{first_rank}
 use Rattle.module_division.proofs.Steps.{Divided, divided_keep, divided_after, taken_after, opposes, Opposes, left_vector, rank_falls, rank_falls_on}
 use Rattle.module_division.proofs.division.vector_remainder.Goals as goal
-use Rattle.module_division.proofs.division.vector_remainder.Goals.{After-index, After-quotient, After-swap}
+use Rattle.module_division.proofs.division.vector_remainder.Goals.{After-quotient, After-swap}
 
 -- what is left begins with the monomial that is looked at
 left_is : (rest : List Term) (i : ℕ) (t : Term) (p : ℕ) (bs : List (List Term)) (v out : List Term) → i < length rest → t ≡ get_or rest i t

@@ -1,6 +1,6 @@
 use Rattle.std.proofs.Common.{◌≡◌, ◌≤◌, subst, arith}
 use Rattle.monomials.specs.Mono.{total_degree}
-use Rattle.polys.specs.Terms.{EachMono, degree_of}
+use Rattle.polys.specs.Terms.{degree_of}
 use Rattle.polys.specs.Poly.{IsVector}
 use Rattle.polys.proofs.Degrees.{AtMost, each_degree}
 use Rattle.polys.proofs.Each.{every_more}

@@ -1,10 +1,13 @@
 use Rattle.std.proofs.Common.{◌≡◌, ◌<◌, ◌≤◌, [], ◌++◌, length, drop, refl, sym, ap, ◌∙◌, subst, arith, append-nil, append_assoc}
+use Rattle.std.specs.Prelude.{Result, Ok, Err, IfErr, IsErrAnd}
 use Rattle.std.specs.List.{All}
 use Rattle.std.proofs.Math.ListN.{drop_of_length-le}
 use Rattle.std.proofs.lemmas.List.Elements.{All-nil, All-append}
 use Rattle.polys.specs.Poly.{terms_of}
 use Rattle.module_basis.specs.declared.pairs.Pair.{Pair}
-use Rattle.module_basis.specs.Growing.{IsPair, AreAwaited}
+use Rattle.module_basis.specs.declared.gens.BasisStop.{BasisStop}
+use Rattle.module_basis.specs.declared.gens.BasisStop.TheVariants.{Deep}
+use Rattle.module_basis.specs.Growing.{IsPair, AreAwaited, HasHighLeads}
 use Rattle.module_division.proofs.Lists.{contains_more}
 use Rattle.module_basis.proofs.Advancing.{gone_on, pairs_still}
 use Rattle.module_basis.proofs.growing.Growing.settle_pairs.Goals as goal
@@ -58,3 +61,13 @@ returns-clause-awaited c =
     let none : c.loop-k.self.pairs.items ++ drop c.loop-k.k W ≡ c.loop-k.self.pairs.items =
     ap (λ ps. c.loop-k.self.pairs.items ++ ps) (drop_of_length-le W done) ∙ append-nil c.loop-k.self.pairs.items in
     subst (λ ps. AreAwaited c.args.gens.now c.args.self.now.cap (terms_of c.loop-k.self.basis.items) ps (length c.loop-k.self.basis.items)) none c.loop-k.invariant.awaited
+
+-- the error that is passed on
+passed_on : {T : Type 0} (r : Result T BasisStop) (stop : BasisStop) (P : Type 0) → IsErrAnd r (λ e. e ≡ stop) → (stop ≡ Deep → P) → IfErr r (λ e. e ≡ Deep → P)
+passed_on (Ok x) stop P h d = tt
+passed_on (Err e) stop P h d = λ q. d (sym h ∙ q)
+
+pub returns-in_err-go_through-clause-deep : goal.returns-in_err-go_through-clause-deep
+returns-in_err-go_through-clause-deep c =
+    passed_on c.from_residual-in_err-go_through.result c.in_err-go_through.field-0.0 (HasHighLeads c.args.gens.now c.args.self.now.cap) c.from_residual-in_err-go_through.ensures.1
+    (λ q. subst (λ n. HasHighLeads c.args.gens.now n) c.loop-k.invariant.cap (c.in_err-go_through.ensures.deep q))

@@ -17,8 +17,8 @@ use Rattle.module_basis.proofs.growing.Growing.take.Goals.{In_ok-rest, In_ok-b}
 some : (r : List Term) → (length r ≡ 0 → ⊥) → r ≢ []
 some r h e = h (ap length e)
 
-pub vector_remainder-requires-clause-divisors : goal.vector_remainder-requires-clause-divisors
-vector_remainder-requires-clause-divisors c =
+pub remainder-requires-clause-divisors : goal.remainder-requires-clause-divisors
+remainder-requires-clause-divisors c =
     let h = c.requires.degree in
     let k = c.get-cap.ensures.within in
     let cap = c.get-cap.ensures.value in

@@ -1,4 +1,0 @@
-use Rattle.basis_timing.proofs.is_affine.Goals as goal
-
-pub returns : goal.returns
-returns c = λ yes. record { canonical = c.terms-terms.ensures.known.canonical; affine = c.is_affine.ensures.0 yes }

@@ -1,0 +1,10 @@
+use Rattle.std.proofs.Common.{◌≡◌, take}
+use Rattle.polys.specs.Terms.{EachMono}
+use Rattle.graded_modules.specs.Vector.{IsGraded, degree_at}
+use Rattle.basis_timing.proofs.is_homogeneous.Given as goal
+
+abbrev pub invariant-loop-t : goal.invariant-loop-t
+invariant-loop-t l = record {
+  same : EachMono (λ m. degree_at l.shift m ≡ l.degree) (take l.t-index l.terms);
+  graded : EachMono (IsGraded l.variables) (take l.t-index l.terms);
+}
