@@ -1,9 +1,9 @@
 -- What is known of a denominator that was tried, and of the one that is chosen.
-use Rattle.std.proofs.Common.{◌≡◌, ◌↔◌, ◌<◌, ◌≤◌, ◌+◌, ℕ, List, [], ◌∷◌, ◌++◌, length, take, drop, get_or, sym, ap, ◌∙◌, subst, arith, refl, Some, None, Bool, false, IsTrue}
+use Rattle.std.proofs.Common.{◌≡◌, ◌↔◌, inl, inr, append_assoc, ◌<◌, ◌≤◌, ◌+◌, ℕ, List, [], ◌∷◌, ◌++◌, length, take, drop, get_or, sym, ap, ◌∙◌, subst, arith, refl, Some, None, Bool, true, false, IsTrue}
 use Rattle.std.specs.Prelude.{Result, Ok, Err, IfOk, IfErr, IfSome, option_map}
 use Rattle.std.specs.List.{All}
 use Rattle.std.proofs.lemmas.List.{take-append-drop, drop_more, map-append}
-use Rattle.std.proofs.lemmas.List.Elements.{All-nil, All-cons, All-head, All-tail, All-push}
+use Rattle.std.proofs.lemmas.List.Elements.{All-nil, All-cons, All-head, All-tail, All-push, All-append}
 use Rattle.prime_field.specs.Primes.{IsPrime}
 use Rattle.polys.specs.declared.term.Term.{Term}
 use Rattle.polys.specs.Curve.{IsOver, Fit, HasRegular, HasDimModulo, data_of}
@@ -18,8 +18,8 @@ use Rattle.denominator_module.specs.Module.{IsDeepDenominator}
 use Rattle.lift_colon.specs.Lifted.{LiftedData, IsLifted}
 use Rattle.problem.specs.declared.problem.Problem.{Problem}
 use Rattle.problem.specs.Problem.{ProblemData, curve_of, IsFit, HasFitPolynomials, problem_data}
-use Rattle.jacobian_pick.specs.Candidates.{AreCandidates}
-use Rattle.jacobian_pick.specs.Choice.{HasDeepIdeal, HasProperIdeal, HasDeepModule, IsInfinite, IsGood, IsFirstGood, IsChosen, IsChosenBy, HasNoDenominator, IsReason, IsCause, IsLiftedOf, IsFound, IsPicked, curve_of_lifted}
+use Rattle.jacobian_pick.specs.Candidates.{AreFirst, jacobian_of, number_sums_of, variable_sums_of}
+use Rattle.jacobian_pick.specs.Choice.{HasDeepIdeal, HasProperIdeal, HasDeepModule, IsInfinite, IsGood, IsPassedOver, IsGoodMultiple, IsFirstGood, sums_of, IsChosen, IsChosenBy, HasNoDenominator, IsReason, IsCause, IsLiftedOf, IsFound, IsPicked, curve_of_lifted}
 use Rattle.jacobian_pick.specs.Lists.{IsBasisOf, IsUpTo}
 use Rattle.jacobian_pick.specs.declared.choosing.PickStop.{PickStop}
 use Rattle.jacobian_pick.specs.declared.choosing.PickStop.TheVariants.{Deep, Unit, DenominatorDeep, ZeroDivisor, Infinite, Wide, NoDenominator, Memory}
@@ -176,21 +176,42 @@ module _ (problem : Problem) (cap : ℕ) (d m : Polynomial) (given : problem.den
   cause_by_hand (Ok l) p r = r
   cause_by_hand (Err stop) p r = cause stop p r
 
-module _ (problem : Problem) (cap : ℕ) (none : problem.denominator ≡ None) (cs : List (List Term)) (all : AreCandidates (problem_data problem) cs) where
+module _ (problem : Problem) (cap : ℕ) (none : problem.denominator ≡ None) where
   missing : (problem_data problem).denominator ≡ None
   missing = ap (option_map (λ (f : Polynomial). f.terms)) none
 
-  pub picked_by_candidates : (l : LiftedData) → IsFound (problem_data problem) cap cs l → IsPicked (problem_data problem) cap l
-  picked_by_candidates l h = record {
+  picked_as : (l : LiftedData) → IsFound (problem_data problem) (λ d. IsGood (problem_data problem) cap d × IsChosenBy (problem_data problem) cap None d) l → IsPicked (problem_data problem) cap l
+  picked_as l h = record {
     lifted = h.lifted;
     known = h.known;
     low = h.low;
-    good = h.first.good;
-    chosen = subst (λ o. IsChosenBy (problem_data problem) cap o l.denominator.terms) (sym missing) (cs, all, h.first);
+    good = h.meets.0;
+    chosen = subst (λ o. IsChosenBy (problem_data problem) cap o l.denominator.terms) (sym missing) h.meets.1;
   }
 
-  pub no_denominator : All (λ d. IsGood (problem_data problem) cap d → ⊥) cs → HasNoDenominator (problem_data problem) cap
-  no_denominator h = record { none = missing; candidates = cs; are_candidates = all; bad = h }
+  pub picked_by_entries : (l : LiftedData) → IsFound (problem_data problem) (IsFirstGood (problem_data problem) cap (jacobian_of (problem_data problem))) l → IsPicked (problem_data problem) cap l
+  picked_by_entries l h = picked_as l (record { lifted = h.lifted; known = h.known; low = h.low; meets = (h.meets.multiple.good, inl h.meets) })
+
+  module _ (first : List (List Term)) (are_first : AreFirst (problem_data problem) first) (passed : All (IsPassedOver (problem_data problem) cap) (jacobian_of (problem_data problem))) where
+    pub picked_by_sums : (l : LiftedData) → IsFound (problem_data problem) (IsFirstGood (problem_data problem) cap (sums_of (problem_data problem) first)) l → IsPicked (problem_data problem) cap l
+    picked_by_sums l h =
+        picked_as l
+        (record {
+          lifted = h.lifted;
+          known = h.known;
+          low = h.low;
+          meets = (h.meets.multiple.good, inr (record { first = first; are_first = are_first; passed = passed; sum = h.meets }));
+        })
+
+    pub no_denominator : All (IsPassedOver (problem_data problem) cap) (number_sums_of (problem_data problem) first)
+        → All (IsPassedOver (problem_data problem) cap) (variable_sums_of (problem_data problem) first) → HasNoDenominator (problem_data problem) cap
+    no_denominator a b = record {
+      none = missing;
+      first = first;
+      are_first = are_first;
+      passed = passed;
+      sums_passed = All-append (IsPassedOver (problem_data problem) cap) (number_sums_of (problem_data problem) first) (variable_sums_of (problem_data problem) first) a b;
+    }
 
 -- ---- the curve
 
@@ -252,23 +273,79 @@ split list i d h e =
     ap terms_of (sym (take-append-drop i list) ∙ ap (λ w. take i list ++ w) (drop_more list i d h ∙ (λ j. sym e j ∷ drop (i + 1) list)))
     ∙ map-append (λ f. f.terms) (take i list) (d ∷ drop (i + 1) list)
 
-pub found : (problem : Problem) (cap n : ℕ) (list : List Polynomial) (i : ℕ) (d : Polynomial) (l : LiftedData) → i < length list → d ≡ get_or list i d
-    → All (λ f. IsGood (problem_data problem) cap f → ⊥) (terms_of (take i list)) → All (IsUpTo problem.prime n 119) list → IsLiftedOf (problem_data problem) l → IsLifted l → l.denominator ≡ d
-    → IsGood (problem_data problem) cap d.terms → IsFound (problem_data problem) cap (terms_of list) l
-found problem cap n list i d l h e bad up lifted known ed good = record {
-  lifted = lifted;
-  known = known;
-  low = subst (λ (f : Polynomial). degree_of f.terms ≤ 119) (sym ed) (subst (IsUpTo problem.prime n 119) (sym e) (up i d h)).low;
-  first = subst (λ (f : Polynomial). IsFirstGood (problem_data problem) cap (terms_of list) f.terms) (sym ed)
-      (record { before = terms_of (take i list); after = terms_of (drop (i + 1) list); place = split list i d h e; bad = bad; good = good });
-}
+module _ (problem : ProblemData) (cap : ℕ) where
+  abbrev Passed : List Term → Type 0
+  Passed f = IsPassedOver problem cap f
 
-pub one_more_bad : (problem : Problem) (cap : ℕ) (list : List Polynomial) (i : ℕ) (d : Polynomial) → i < length list → d ≡ get_or list i d
-    → All (λ f. IsGood (problem_data problem) cap f → ⊥) (terms_of (take i list)) → (IsGood (problem_data problem) cap d.terms → ⊥)
-    → All (λ f. IsGood (problem_data problem) cap f → ⊥) (terms_of (take (i + 1) list))
-one_more_bad problem cap list i d h e bad worse =
-    subst (All (λ f. IsGood (problem_data problem) cap f → ⊥)) (sym (next problem.prime 0 [] list i d h e))
-    (All-push (λ f. IsGood (problem_data problem) cap f → ⊥) (terms_of (take i list)) d.terms bad worse)
+  -- in a longer list
+  pub first_in_front : (xs ys : List (List Term)) (d : List Term) → IsFirstGood problem cap xs d → IsFirstGood problem cap (xs ++ ys) d
+  first_in_front xs ys d h = record {
+    before = h.before;
+    member = h.member;
+    after = h.after ++ ys;
+    place = ap (λ w. w ++ ys) h.place ∙ append_assoc h.before (h.member ∷ h.after) ys;
+    passed = h.passed;
+    multiple = h.multiple;
+  }
+
+  pub first_behind : (xs ys : List (List Term)) (d : List Term) → All Passed xs → IsFirstGood problem cap ys d → IsFirstGood problem cap (xs ++ ys) d
+  first_behind xs ys d a h = record {
+    before = xs ++ h.before;
+    member = h.member;
+    after = h.after;
+    place = ap (λ w. xs ++ w) h.place ∙ sym (append_assoc xs h.before (h.member ∷ h.after));
+    passed = All-append Passed xs h.before a h.passed;
+    multiple = h.multiple;
+  }
+
+  pub found_more : (V W : List Term → Type 0) (l : LiftedData) → ((d : List Term) → V d → W d) → IsFound problem V l → IsFound problem W l
+  found_more V W l k h = record { lifted = h.lifted; known = h.known; low = h.low; meets = k l.denominator.terms h.meets }
+
+  pub found_at : (list : List Polynomial) (i : ℕ) (f : Polynomial) (l : LiftedData) → i < length list → f ≡ get_or list i f → All Passed (terms_of (take i list))
+      → IsFound problem (IsGoodMultiple problem cap f.terms) l → IsFound problem (IsFirstGood problem cap (terms_of list)) l
+  found_at list i f l h e passed found =
+      found_more (IsGoodMultiple problem cap f.terms) (IsFirstGood problem cap (terms_of list)) l
+      (λ d m. record {
+        before = terms_of (take i list);
+        member = f.terms;
+        after = terms_of (drop (i + 1) list);
+        place = split list i f h e;
+        passed = passed;
+        multiple = m;
+      }) found
+
+  pub one_more_passed : (list : List Polynomial) (i : ℕ) (f : Polynomial) → i < length list → f ≡ get_or list i f → All Passed (terms_of (take i list)) → Passed f.terms
+      → All Passed (terms_of (take (i + 1) list))
+  one_more_passed list i f h e passed more =
+      subst (All Passed) (sym (next problem.prime 0 [] list i f h e)) (All-push Passed (terms_of (take i list)) f.terms passed more)
+
+-- what is false is not true
+pub not_true : (b : Bool) → b ≡ false → IsTrue b → ⊥
+not_true true e t = absurd (cc)
+not_true false e t = absurd (cc)
+
+-- one polynomial that is tried
+module _ (problem : Problem) (cap : ℕ) (f m : Polynomial) (pos : 0 < problem.prime) (up : IsUpTo problem.prime (length problem.letters) 119 f)
+    (outside : InIdeal problem.prime (length problem.letters) (terms_of problem.generators) f.terms → ⊥) (mp : m.prime ≡ f.prime) (mm : IsMonicOf f.prime f.terms m.terms) where
+  monic_of : IsMonicOf problem.prime f.terms m.terms
+  monic_of = subst (λ (q : ℕ). IsMonicOf q f.terms m.terms) up.over.prime mm
+
+  pub tried_low : IsUpTo problem.prime (length problem.letters) 119 m
+  tried_low =
+      let low = monic_low problem.prime (length problem.letters) 119 f.terms m.terms pos (record { poly = up.over.poly; low = up.low }) monic_of in
+      record { over = record { prime = mp ∙ up.over.prime; poly = low.poly }; low = low.low }
+
+  pub found_alone : (l : LiftedData) → IsLiftedOf (problem_data problem) l → IsLifted l → l.denominator ≡ m → IsGood (problem_data problem) cap m.terms
+      → IsFound (problem_data problem) (IsGoodMultiple (problem_data problem) cap f.terms) l
+  found_alone l lifted known e good = record {
+    lifted = lifted;
+    known = known;
+    low = subst (λ (g : Polynomial). degree_of g.terms ≤ 119) (sym e) tried_low.low;
+    meets = subst (λ (g : Polynomial). IsGoodMultiple (problem_data problem) cap f.terms g.terms) (sym e) (record { outside = outside; monic = monic_of; good = good });
+  }
+
+  pub passed_alone : (stop : PickStop) → (stop ≡ Memory → ⊥) → IsReason (problem_data problem) cap m.terms stop → IsPassedOver (problem_data problem) cap f.terms
+  passed_alone stop n r = inr (outside, m.terms, monic_of, reason_is_bad (problem_data problem) cap m.terms stop n r)
 
 -- ---- 1 is not in the ideal
 

@@ -13,7 +13,7 @@ use Rattle.jacobian_pick.specs.Candidates.{AreKept, AreFirst, AreSecond, AreThir
 use Rattle.jacobian_pick.specs.Lists.{polynomials, IsUpTo}
 use Rattle.problem.specs.Problem.{HasFitPolynomials, problem_data}
 use Rattle.jacobian_pick.proofs.Lows.{IsLow, jacobian_low, number_sums_low, variable_sums_low}
-use Rattle.jacobian_pick.proofs.Memberships.{listed, over_raw, lows, fits_up_to}
+use Rattle.jacobian_pick.proofs.Memberships.{listed, up_to_raw, overs, lows, fits_up_to}
 
 -- the polynomials with these terms, which are low
 pub record IsRaw (problem : Problem) (D : ℕ) (xs : List (List Term)) (raw : List Polynomial) : Type 0 where
@@ -27,16 +27,20 @@ module _ (problem : Problem) (prime : IsPrime problem.prime) where
   pos : 0 < problem.prime
   pos = let h = prime.0 in omega arith
 
-  pub over : (D : ℕ) (xs : List (List Term)) (raw list : List Polynomial) → IsRaw problem D xs raw → list ≡ raw → All (IsOver problem.prime (length problem.letters)) list
-  over D xs raw list r e = subst (All (IsOver problem.prime (length problem.letters))) (sym e) (over_raw problem.prime (length problem.letters) D xs raw r.is r.low)
+  pub raw_known : (D : ℕ) (xs : List (List Term)) (raw : List Polynomial) → IsRaw problem D xs raw → All (IsUpTo problem.prime (length problem.letters) D) raw × (terms_of raw ≡ xs)
+  raw_known D xs raw r = up_to_raw problem.prime (length problem.letters) D xs raw r.is r.low
 
-  pub kept_of : {E : Type 0} (D : ℕ) (xs : List (List Term)) (raw list : List Polynomial) (r : Result (List Polynomial) E) → IsRaw problem D xs raw → list ≡ raw
-      → IfOk r (λ ms. All (λ m. m.prime ≡ problem.prime) ms) → IfOk r (λ ms. AreKept problem.prime (length problem.letters) (terms_of problem.generators) (terms_of list) (terms_of ms))
+  pub over : (D : ℕ) (raw list : List Polynomial) → All (IsUpTo problem.prime (length problem.letters) D) raw → list ≡ raw → All (IsOver problem.prime (length problem.letters)) list
+  over D raw list u e = subst (All (IsOver problem.prime (length problem.letters))) (sym e) (overs problem.prime (length problem.letters) D raw u)
+
+  pub kept_of : {E : Type 0} (D : ℕ) (xs : List (List Term)) (raw list : List Polynomial) (r : Result (List Polynomial) E) → All (IsUpTo problem.prime (length problem.letters) D) raw → terms_of raw ≡ xs
+      → list ≡ raw → IfOk r (λ ms. All (λ m. m.prime ≡ problem.prime) ms)
+      → IfOk r (λ ms. AreKept problem.prime (length problem.letters) (terms_of problem.generators) (terms_of list) (terms_of ms))
       → IfOk r (λ ms. All (IsUpTo problem.prime (length problem.letters) D) ms × AreKept problem.prime (length problem.letters) (terms_of problem.generators) xs (terms_of ms))
-  kept_of D xs raw list (Ok ms) h e a k =
-      listed problem.prime (length problem.letters) D (terms_of problem.generators) xs raw ms pos h.is h.low a
+  kept_of D xs raw list (Ok ms) u h e a k =
+      listed problem.prime (length problem.letters) D (terms_of problem.generators) xs raw ms pos u h a
       (subst (λ w. AreKept problem.prime (length problem.letters) (terms_of problem.generators) (terms_of w) (terms_of ms)) e k)
-  kept_of D xs raw list (Err x) h e a k = a
+  kept_of D xs raw list (Err x) u h e a k = a
 
   pub first_raw : (v : ℕ) (gens raw : List Polynomial) → HasFitPolynomials problem → v ≡ length problem.letters → gens ≡ problem.generators → raw ≡ polynomials problem.prime (jacobian problem.prime v (terms_of gens))
       → IsRaw problem 118 (jacobian problem.prime (length problem.letters) (terms_of problem.generators)) raw

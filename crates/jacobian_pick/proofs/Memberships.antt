@@ -113,15 +113,18 @@ module _ (p n D : ℕ) where
   overs (f ∷ fs) a = All-cons (IsOver p n) f fs (All-head (IsUpTo p n D) f fs a).over (overs fs (All-tail (IsUpTo p n D) f fs a))
 
   -- what is kept of a list of polynomials
-  pub listed : (gs xs : List (List Term)) (raw ms : List Polynomial) → 0 < p → raw ≡ polynomials p xs → All (IsLow p n D) xs → All (λ m. m.prime ≡ p) ms
+  pub listed : (gs xs : List (List Term)) (raw ms : List Polynomial) → 0 < p → All (IsUpTo p n D) raw → terms_of raw ≡ xs → All (λ m. m.prime ≡ p) ms
       → AreKept p n gs (terms_of raw) (terms_of ms) → All (IsUpTo p n D) ms × AreKept p n gs xs (terms_of ms)
-  listed gs xs raw ms pos e a b k =
-      let is : AreKept p n gs xs (terms_of ms) = subst (λ w. AreKept p n gs w (terms_of ms)) (ap terms_of e ∙ lists_of p xs) k in
-      (up_to ms b (kept_low p n gs D xs (terms_of ms) pos is a), is)
+  listed gs xs raw ms pos a e b k =
+      (up_to ms b (kept_low p n gs D (terms_of raw) (terms_of ms) pos k (lows raw a)), subst (λ w. AreKept p n gs w (terms_of ms)) e k)
 
-  pub over_raw : (xs : List (List Term)) (raw : List Polynomial) → raw ≡ polynomials p xs → All (IsLow p n D) xs → All (IsOver p n) raw
-  over_raw xs raw e a = subst (All (IsOver p n)) (sym e) (go xs a)
+  -- polynomials that are made of low lists of terms
+  pub up_to_raw : (xs : List (List Term)) (raw : List Polynomial) → raw ≡ polynomials p xs → All (IsLow p n D) xs → All (IsUpTo p n D) raw × (terms_of raw ≡ xs)
+  up_to_raw xs raw e a = (subst (All (IsUpTo p n D)) (sym e) (go xs a), ap terms_of e ∙ lists_of p xs)
     where
-      go : (xs : List (List Term)) → All (IsLow p n D) xs → All (IsOver p n) (polynomials p xs)
-      go [] a = All-nil (IsOver p n)
-      go (x ∷ xs) a = All-cons (IsOver p n) (record { prime = p; terms = x }) (polynomials p xs) (record { prime = refl; poly = (All-head (IsLow p n D) x xs a).poly }) (go xs (All-tail (IsLow p n D) x xs a))
+      go : (xs : List (List Term)) → All (IsLow p n D) xs → All (IsUpTo p n D) (polynomials p xs)
+      go [] a = All-nil (IsUpTo p n D)
+      go (x ∷ xs) a =
+          let h = All-head (IsLow p n D) x xs a in
+          All-cons (IsUpTo p n D) (record { prime = p; terms = x }) (polynomials p xs) (record { over = record { prime = refl; poly = h.poly }; low = h.low })
+          (go xs (All-tail (IsLow p n D) x xs a))

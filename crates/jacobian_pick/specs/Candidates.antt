@@ -59,20 +59,32 @@ AreKept p n gs (f ∷ fs) ms =
     (InIdeal p n gs f × AreKept p n gs fs ms)
     ⊎ ((InIdeal p n gs f → ⊥) × (m : List Term) × (rest : List (List Term)) × IsMonicOf p f m × (ms ≡ m ∷ rest) × AreKept p n gs fs rest)
 
+-- what the Jacobian matrix gives
+abbrev pub jacobian_of : ProblemData → List (List Term)
+jacobian_of problem = jacobian problem.prime (length problem.letters) problem.generators
+
+-- the sums of the first six of the list with multiples of a later one by numbers
+abbrev pub number_sums_of : ProblemData → List (List Term) → List (List Term)
+number_sums_of problem first = over_pairs (number_sums problem.prime) (take 6 first)
+
+-- the sums of the first six of the list with multiples of another one by variables
+abbrev pub variable_sums_of : ProblemData → List (List Term) → List (List Term)
+variable_sums_of problem first = over_others (variable_sums problem.prime (length problem.letters)) [] (take 6 first)
+
+-- ms is what is kept of fs
+abbrev pub AreKeptOf : ProblemData → List (List Term) → List (List Term) → Type 0
+AreKeptOf problem fs ms = AreKept problem.prime (length problem.letters) problem.generators fs ms
+
 -- what is kept of the Jacobian matrix
 abbrev pub AreFirst : ProblemData → List (List Term) → Type 0
-AreFirst problem ms =
-    AreKept problem.prime (length problem.letters) problem.generators (jacobian problem.prime (length problem.letters) problem.generators) ms
+AreFirst problem ms = AreKeptOf problem (jacobian_of problem) ms
 
--- what is kept of the sums of the first six of these with multiples of a later one by numbers
+-- what is kept of the sums by numbers, and of those by variables
 abbrev pub AreSecond : ProblemData → List (List Term) → List (List Term) → Type 0
-AreSecond problem first ms =
-    AreKept problem.prime (length problem.letters) problem.generators (over_pairs (number_sums problem.prime) (take 6 first)) ms
+AreSecond problem first ms = AreKeptOf problem (number_sums_of problem first) ms
 
--- what is kept of the sums of the first six of these with multiples of another one by variables
 abbrev pub AreThird : ProblemData → List (List Term) → List (List Term) → Type 0
-AreThird problem first ms =
-    AreKept problem.prime (length problem.letters) problem.generators (over_others (variable_sums problem.prime (length problem.letters)) [] (take 6 first)) ms
+AreThird problem first ms = AreKeptOf problem (variable_sums_of problem first) ms
 
 -- the three lists, one after the other. For xy modulo 5: y, x, then x + y, x - 2y, x + 2y, x - y, then x^2 + y, xy + y,
 -- xy + x, y^2 + x

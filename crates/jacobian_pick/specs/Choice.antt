@@ -1,7 +1,7 @@
 -- The choice of a denominator, and what keeps a problem from having one (Böhm, Decker, Laplagne, Pfister, Steenpass and
 -- Steidel, Parallel Algorithms for Normalization).
 use Rattle.std.specs.Bool.{⊤}
-use Rattle.std.specs.Prelude.{◌≡◌, ℕ, ◌<◌, ◌≤◌, List, ◌∷◌, ◌++◌, length, All, Option, None, Some}
+use Rattle.std.specs.Prelude.{◌≡◌, ◌⊎◌, ℕ, ◌<◌, ◌≤◌, List, ◌∷◌, ◌++◌, length, All, Option, None, Some}
 use Rattle.polys.specs.declared.curve.TheConstants.{LARGEST_DIMENSION, MAX_DENOMINATOR_DEGREE}
 use Rattle.polys.specs.declared.curve.Curve.{Curve}
 use Rattle.polys.specs.declared.term.Term.{Term}
@@ -15,7 +15,7 @@ use Rattle.denominator_module.specs.Module.{IsDeepDenominator}
 use Rattle.polys.specs.Poly.{terms_of}
 use Rattle.lift_colon.specs.Lifted.{LiftedData, IsLifted}
 use Rattle.problem.specs.Problem.{ProblemData, curve_of}
-use Rattle.jacobian_pick.specs.Candidates.{AreCandidates}
+use Rattle.jacobian_pick.specs.Candidates.{AreFirst, jacobian_of, number_sums_of, variable_sums_of}
 use Rattle.jacobian_pick.specs.declared.choosing.PickStop.{PickStop}
 use Rattle.jacobian_pick.specs.declared.choosing.PickStop.TheVariants.{Deep, Unit, DenominatorDeep, ZeroDivisor, Infinite, Wide, NoDenominator, Memory}
 
@@ -66,13 +66,37 @@ pub record IsGood (problem : ProblemData) (cap : ℕ) (d : List Term) : Type 0 w
 
 -- ---- the choice
 
--- d is good and those before it are not
-pub record IsFirstGood (problem : ProblemData) (cap : ℕ) (cs : List (List Term)) (d : List Term) : Type 0 where
-  pub before : List (List Term)
-  pub after : List (List Term)
-  pub place : cs ≡ before ++ d ∷ after
-  pub bad : All (λ f. IsGood problem cap f → ⊥) before
+-- f is no candidate that is good: it is in the ideal, or its monic multiple is not good
+abbrev pub IsPassedOver : ProblemData → ℕ → List Term → Type 0
+IsPassedOver problem cap f =
+    InIdeal problem.prime (length problem.letters) problem.generators f
+    ⊎ ((InIdeal problem.prime (length problem.letters) problem.generators f → ⊥) × (m : List Term) × IsMonicOf problem.prime f m × (IsGood problem cap m → ⊥))
+
+-- f is a candidate that is good: it is outside the ideal, and d is its monic multiple and good
+pub record IsGoodMultiple (problem : ProblemData) (cap : ℕ) (f d : List Term) : Type 0 where
+  pub outside : InIdeal problem.prime (length problem.letters) problem.generators f → ⊥
+  pub monic : IsMonicOf problem.prime f d
   pub good : IsGood problem cap d
+
+-- d is the good multiple of a member of the list, and all before it are passed over
+pub record IsFirstGood (problem : ProblemData) (cap : ℕ) (fs : List (List Term)) (d : List Term) : Type 0 where
+  pub before : List (List Term)
+  pub member : List Term
+  pub after : List (List Term)
+  pub place : fs ≡ before ++ member ∷ after
+  pub passed : All (IsPassedOver problem cap) before
+  pub multiple : IsGoodMultiple problem cap member d
+
+-- the sums of what is kept of the Jacobian matrix, by numbers and then by variables
+abbrev pub sums_of : ProblemData → List (List Term) → List (List Term)
+sums_of problem first = number_sums_of problem first ++ variable_sums_of problem first
+
+-- the Jacobian matrix gives no good candidate, and d is the first good one of the sums
+pub record IsFirstGoodSum (problem : ProblemData) (cap : ℕ) (d : List Term) : Type 0 where
+  pub first : List (List Term)
+  pub are_first : AreFirst problem first
+  pub passed : All (IsPassedOver problem cap) (jacobian_of problem)
+  pub sum : IsFirstGood problem cap (sums_of problem first) d
 
 -- a denominator is handed in, and its monic multiple is d
 abbrev pub IsHandedIn : ProblemData → List Term → Type 0
@@ -81,7 +105,7 @@ IsHandedIn problem d = (f : List Term) × (problem.denominator ≡ Some f) × Is
 -- the monic multiple of the denominator that is handed in, or else the first good candidate
 abbrev pub IsChosenBy : ProblemData → ℕ → Option (List Term) → List Term → Type 0
 IsChosenBy problem cap (Some f) d = IsMonicOf problem.prime f d × IsGood problem cap d
-IsChosenBy problem cap None d = (cs : List (List Term)) × AreCandidates problem cs × IsFirstGood problem cap cs d
+IsChosenBy problem cap None d = IsFirstGood problem cap (jacobian_of problem) d ⊎ IsFirstGoodSum problem cap d
 
 abbrev pub IsChosen : ProblemData → ℕ → List Term → Type 0
 IsChosen problem cap d = IsChosenBy problem cap problem.denominator d
@@ -89,9 +113,10 @@ IsChosen problem cap d = IsChosenBy problem cap problem.denominator d
 -- no denominator is handed in, and no candidate is good
 pub record HasNoDenominator (problem : ProblemData) (cap : ℕ) : Type 0 where
   pub none : problem.denominator ≡ None
-  pub candidates : List (List Term)
-  pub are_candidates : AreCandidates problem candidates
-  pub bad : All (λ d. IsGood problem cap d → ⊥) candidates
+  pub first : List (List Term)
+  pub are_first : AreFirst problem first
+  pub passed : All (IsPassedOver problem cap) (jacobian_of problem)
+  pub sums_passed : All (IsPassedOver problem cap) (sums_of problem first)
 
 -- ---- the answers
 
@@ -131,12 +156,12 @@ pub record IsLiftedOf (problem : ProblemData) (l : LiftedData) : Type 0 where
 abbrev pub curve_of_lifted : LiftedData → Curve
 curve_of_lifted l = record { prime = l.prime; variables = l.variables; ideal = l.ideal; denominator = l.denominator }
 
--- for the first good polynomial of the list
-pub record IsFound (problem : ProblemData) (cap : ℕ) (list : List (List Term)) (l : LiftedData) : Type 0 where
+-- with a denominator that meets a condition
+pub record IsFound (problem : ProblemData) (condition : List Term → Type 0) (l : LiftedData) : Type 0 where
   pub lifted : IsLiftedOf problem l
   pub known : IsLifted l
   pub low : degree_of l.denominator.terms ≤ MAX_DENOMINATOR_DEGREE
-  pub first : IsFirstGood problem cap list l.denominator.terms
+  pub meets : condition l.denominator.terms
 
 -- for the chosen denominator
 pub record IsPicked (problem : ProblemData) (cap : ℕ) (l : LiftedData) : Type 0 where

@@ -1,7 +1,9 @@
 // The choice of a denominator.
 ghost use Rattle.std.specs.Prelude.{◌≡◌, ◌≢◌, ◌↔◌, ◌⊎◌, ◌≤◌, ℕ, All, Err, IfOk, IfErr, IfSome, IsNone, MatchResult, Some, None, length};
 ghost use Rattle.polys.specs.declared.curve.TheConstants.{MAX_DENOMINATOR_DEGREE};
-ghost use Rattle.jacobian_pick.specs.Choice.{HasDeepIdeal, HasProperIdeal, IsGood, IsChosen, IsReason, IsCause, IsLiftedOf, IsFound, IsPicked, curve_of_lifted};
+ghost use Rattle.jacobian_pick.specs.declared.jacobian.TheConstants.{MAX_MINOR_DEGREE};
+ghost use Rattle.jacobian_pick.specs.Candidates.{jacobian_of};
+ghost use Rattle.jacobian_pick.specs.Choice.{IsPassedOver, IsGoodMultiple, IsFirstGood, HasDeepIdeal, HasProperIdeal, IsGood, IsChosen, IsReason, IsCause, IsLiftedOf, IsFound, IsPicked, curve_of_lifted};
 ghost use Rattle.jacobian_pick.specs.Lists.{IsBasisOf, IsUpTo};
 ghost use Rattle.problem.specs.Problem.{HasFitPolynomials, problem_data, curve_of};
 ghost use Rattle.jacobian_pick.specs.declared.choosing.PickStop.TheVariants.{Memory};
@@ -11,7 +13,7 @@ ghost use Rattle.polys.specs.Poly.{terms_of};
 ghost use Rattle.polys.specs.Curve.{Fit, HasDimModulo, IsOver, data_of};
 ghost use Rattle.polys.specs.declared.term.Term.{Term};
 
-use crate::listing::candidates;
+use crate::listing::{entries, first_list, number_sums, variable_sums};
 use crate::membership::{is_member, variables_of};
 use lift_colon::{Dimension, Lifted};
 use lists::{List, NoMemory};
@@ -124,7 +126,40 @@ fn tried(
     }
 }
 
-// The bases for the first good polynomial of the list, or `None` where none is good.
+// The bases for the monic multiple of `f`, or `None` where `f` is in the ideal or this multiple is not good.
+fn good(
+    alloc: Global,
+    problem: &Problem,
+    basis: &[Poly],
+    f: &Poly,
+    cap: u32,
+) -> Result<Option<Lifted>, NoMemory>
+    requires ready { HasFitPolynomials problem.now }
+    requires basis { IsBasisOf problem.now basis.now }
+    requires low { IsUpTo problem.now.prime (length problem.now.letters) MAX_DENOMINATOR_DEGREE f.now }
+    requires not_deep { HasDeepIdeal (problem_data problem.now) cap → ⊥ }
+    requires some_cap { 1 ≤ cap }
+    requires cap { cap ≤ MAX_CAP }
+    ensures found { IfOk result (λ found. IfSome found (λ l. IsFound (problem_data problem.now) (IsGoodMultiple (problem_data problem.now) cap f.now.terms) l)) }
+    ensures none { IfOk result (λ found. IsNone found → IsPassedOver (problem_data problem.now) cap f.now.terms) }
+{
+    let _prime = problem.prime.get();
+    if is_member(problem, basis, f)? {
+        return Ok(None);
+    }
+    let monic = f.monic()?;
+    match tried(alloc, problem, basis, &monic, cap) {
+        Ok(lifted) => Ok(Some(lifted)),
+        Err(stop) => {
+            if stop == PickStop::Memory {
+                return Err(NoMemory);
+            }
+            Ok(None)
+        }
+    }
+}
+
+// The bases for the first good one of the list, or `None` where none is good. What comes after it is not looked at.
 fn first_good(
     alloc: Global,
     problem: &Problem,
@@ -138,23 +173,52 @@ fn first_good(
     requires not_deep { HasDeepIdeal (problem_data problem.now) cap → ⊥ }
     requires some_cap { 1 ≤ cap }
     requires cap { cap ≤ MAX_CAP }
-    ensures found { IfOk result (λ found. IfSome found (λ l. IsFound (problem_data problem.now) cap (terms_of list.now) l)) }
-    ensures none { IfOk result (λ found. IsNone found → All (λ d. IsGood (problem_data problem.now) cap d → ⊥) (terms_of list.now)) }
+    ensures found { IfOk result (λ found. IfSome found (λ l. IsFound (problem_data problem.now) (IsFirstGood (problem_data problem.now) cap (terms_of list.now)) l)) }
+    ensures none { IfOk result (λ found. IsNone found → All (IsPassedOver (problem_data problem.now) cap) (terms_of list.now)) }
 {
-    for d in list {
-        match tried(alloc, problem, basis, d, cap) {
-            Ok(lifted) => return Ok(Some(lifted)),
-            Err(stop) => {
-                if stop == PickStop::Memory {
-                    return Err(NoMemory);
-                }
-            }
+    for f in list {
+        match good(alloc, problem, basis, f, cap)? {
+            Some(lifted) => return Ok(Some(lifted)),
+            None => {}
         }
     }
     Ok(None)
 }
 
-// The bases for the first good candidate.
+// The bases for the first good sum, where no entry of the Jacobian matrix is good.
+fn by_sums(
+    alloc: Global,
+    problem: &Problem,
+    basis: &[Poly],
+    entries: &[Poly],
+    cap: u32,
+) -> Result<Lifted, PickStop>
+    requires ready { HasFitPolynomials problem.now }
+    requires basis { IsBasisOf problem.now basis.now }
+    requires none { problem.now.denominator ≡ None }
+    requires low { All (IsUpTo problem.now.prime (length problem.now.letters) MAX_MINOR_DEGREE) entries.now }
+    requires exact { terms_of entries.now ≡ jacobian_of (problem_data problem.now) }
+    requires passed { All (IsPassedOver (problem_data problem.now) cap) (terms_of entries.now) }
+    requires proper { HasProperIdeal (problem_data problem.now) cap }
+    requires some_cap { 1 ≤ cap }
+    requires cap { cap ≤ MAX_CAP }
+    ensures found { IfOk result (λ l. IsPicked (problem_data problem.now) cap l) }
+    ensures cause { IfErr result (λ stop. IsCause (problem_data problem.now) cap stop) }
+{
+    let first = first_list(alloc, problem, basis, entries)?;
+    let sums = number_sums(alloc, problem, first.as_slice())?;
+    match first_good(alloc, problem, basis, sums.as_slice(), cap)? {
+        Some(lifted) => return Ok(lifted),
+        None => {}
+    }
+    let others = variable_sums(alloc, problem, first.as_slice())?;
+    match first_good(alloc, problem, basis, others.as_slice(), cap)? {
+        Some(lifted) => Ok(lifted),
+        None => Err(PickStop::NoDenominator),
+    }
+}
+
+// The bases for the first good candidate. The candidates are made one after another, and none after it.
 fn by_candidates(
     alloc: Global,
     problem: &Problem,
@@ -170,10 +234,10 @@ fn by_candidates(
     ensures found { IfOk result (λ l. IsPicked (problem_data problem.now) cap l) }
     ensures cause { IfErr result (λ stop. IsCause (problem_data problem.now) cap stop) }
 {
-    let list = candidates(alloc, problem, basis)?;
+    let list = entries(alloc, problem)?;
     match first_good(alloc, problem, basis, list.as_slice(), cap)? {
         Some(lifted) => Ok(lifted),
-        None => Err(PickStop::NoDenominator),
+        None => by_sums(alloc, problem, basis, list.as_slice(), cap),
     }
 }
 

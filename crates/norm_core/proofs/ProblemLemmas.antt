@@ -36,7 +36,8 @@ chosen-good problem cap d = by_handing problem.denominator
   where
     by_handing : (o : Option (List Term)) → IsChosenBy problem cap o d → IsGood problem cap d
     by_handing (Some f) c = c.1
-    by_handing None c = c.2.good
+    by_handing None (inl c) = c.multiple.good
+    by_handing None (inr c) = c.sum.multiple.good
 
 -- where not nothing is left, something is
 something-left : (problem : ProblemData) (cap : ℕ) (d : List Term) → IsChosen problem cap d → (HasDimModulo (curve_of problem d) 0 → ⊥)

@@ -21,5 +21,5 @@ pub returns-clause-exact : goal.returns-clause-exact
 returns-clause-exact c =
     subst (λ w. AreCandidates (problem_data c.args.problem.now) (terms_of w)) (sym (whole (goal.at.returns-clause-exact c).In_ok-append-2))
     (all_candidates c.args.problem.now c.in_ok-all.all c.in_ok-second.second c.in_ok-third.third c.in_ok-all.ensures.exact
-    (subst (λ w. AreSecond (problem_data c.args.problem.now) (terms_of w) (terms_of c.in_ok-second.second)) c.as_slice.ensures c.in_ok-second.ensures.exact)
-    (subst (λ w. AreThird (problem_data c.args.problem.now) (terms_of w) (terms_of c.in_ok-third.third)) c.as_slice-2.ensures c.in_ok-third.ensures.exact))
+    (subst (λ w. AreSecond (problem_data c.args.problem.now) (terms_of w) (terms_of c.in_ok-second.second)) c.as_slice-2.ensures c.in_ok-second.ensures.exact)
+    (subst (λ w. AreThird (problem_data c.args.problem.now) (terms_of w) (terms_of c.in_ok-third.third)) c.as_slice-3.ensures c.in_ok-third.ensures.exact))
