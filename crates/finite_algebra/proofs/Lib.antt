@@ -13,4 +13,5 @@ pub mod Listing
 pub mod QuotientHolds
 pub mod BasisLaws
 pub mod Examples
-pub mod PrincipalIdeals
+pub mod Multiplication
+pub mod Generated

@@ -1,12 +1,12 @@
 -- The algebra and the matrix that a quotient is made of.
-use Rattle.std.proofs.Common.{◌≡◌, ℕ, ◌<◌, ◌≤◌, List, [], length, map, get_or, All, refl, subst, sym, ap, ap₂, ◌∙◌, arith}
+use Rattle.std.proofs.Common.{◌≡◌, ℕ, ◌+◌, ◌<◌, ◌≤◌, List, [], length, map, get_or, All, refl, subst, sym, ap, ap₂, ◌∙◌, arith}
 use Rattle.std.proofs.lemmas.List.{length-map, get_or-map}
 use Rattle.std.proofs.lemmas.List.Elements.{All-from_get_or, All-map}
 use Rattle.comm_ring.specs.Modules.{InSpan}
 use Rattle.row_space.specs.Echelon.{IsRow, IsEchelon, entries_at}
 use Rattle.row_space.specs.Subspace.{Subspace, IsIn, IsReduced, product}
 use Rattle.finite_algebra.specs.Elements.{FiniteAlgebra, IsElement, IsAlgebra, elements, times}
-use Rattle.finite_algebra.specs.Projections.{IsIdealOf, IsQuotient, IsClass, AreFree, images_of_products}
+use Rattle.finite_algebra.specs.Projections.{IsIdealOf, IsProjection, IsQuotient, IsClass, AreFree, images_of_products}
 use Rattle.finite_algebra.proofs.Classes.{space}
 use Rattle.finite_algebra.proofs.Images.{Splits, splits, dimensions}
 use Rattle.finite_algebra.proofs.Summing.{combination_fits}
@@ -97,3 +97,14 @@ module _ (A : FiniteAlgebra) (two : 2 ≤ A.prime) (a : IsAlgebra A) (ideal : Su
       λ h. split.into v (subst (λ s. IsIn s v) ideal_is h),
     );
   }
+
+  pub is_projection : (k : ℕ) → k + length ideal.basis ≡ A.dimension → IsProjection A ideal k matrix
+  is_projection k e = subst (λ n. IsProjection A ideal n matrix) same_dimension (record {
+    dimension = is_quotient.dimension;
+    count = is_quotient.count;
+    rows = is_quotient.rows;
+    kernel = is_quotient.kernel;
+  })
+    where
+      same_dimension : length places ≡ k
+      same_dimension = omega (arith, is_quotient.dimension, e)

@@ -56,6 +56,12 @@ pub record IsBilinear (A : FiniteAlgebra) : Type 0 where
 abbrev pub unit_row : ℕ → ℕ → List ℕ
 unit_row n k = slice_set (replicate n 0) k 1
 
+-- the rows are the products of the basis elements with x
+pub record AreProducts (A : FiniteAlgebra) (x : List ℕ) (matrix : List (List ℕ)) : Type 0 where
+  pub count : length matrix ≡ A.dimension
+  pub rows : All (IsElement A) matrix
+  pub products : (k : ℕ) → k < A.dimension → slice_index_or matrix k [] ≡ times A (unit_row A.dimension k) x
+
 -- the basis elements commute and associate, and the one is a one for each of them
 pub record HasBasisLaws (A : FiniteAlgebra) : Type 0 where
   pub count : length A.products ≡ A.dimension * A.dimension

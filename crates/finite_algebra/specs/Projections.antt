@@ -2,6 +2,8 @@
 use Rattle.std.specs.Prelude.{◌≡◌, ◌≢◌, ◌↔◌, ℕ, ◌+◌, ◌*◌, ◌<◌, List, [], length, slice_index, slice_index_or, map}
 use Rattle.std.specs.List.{All, flat_map}
 use Rattle.comm_ring.specs.Ring.{IsRingMap}
+use Rattle.comm_ring.specs.Ideals.{InIdeal}
+use Rattle.row_space.specs.Echelon.{IsRow}
 use Rattle.row_space.specs.Sums.{entry}
 use Rattle.row_space.specs.Subspace.{Subspace, FitsIn, IsIn, DifferIn, IsZeroAtPivots, IsZero, product}
 use Rattle.finite_algebra.specs.Elements.{FiniteAlgebra, IsElement, elements, times, ring_of, unit_row}
@@ -11,6 +13,19 @@ pub record IsIdealOf (A : FiniteAlgebra) (space : Subspace) : Type 0 where
   pub prime : space.prime ≡ A.prime
   pub width : space.width ≡ A.dimension
   pub absorbs : (x f : List ℕ) → IsElement A x → IsElement A f → IsIn space f → IsIn space (times A x f)
+
+-- an ideal that holds the elements gs, and whose members are sums of multiples of them
+pub record IsGeneratedBy (A : FiniteAlgebra) (gs : List (List ℕ)) (space : Subspace) : Type 0 where
+  pub ideal : IsIdealOf A space
+  pub holds : All (IsIn space) gs
+  pub multiples : (f : List ℕ) → IsIn space f → InIdeal (ring_of A) gs f
+
+-- a matrix of m columns that takes exactly the members of the ideal to 0, where m is the dimension modulo the ideal
+pub record IsProjection (A : FiniteAlgebra) (ideal : Subspace) (m : ℕ) (matrix : List (List ℕ)) : Type 0 where
+  pub dimension : m + length ideal.basis ≡ A.dimension
+  pub count : length matrix ≡ A.dimension
+  pub rows : All (IsRow A.prime m) matrix
+  pub kernel : (v : List ℕ) → IsZero A.prime m (product A.prime m v matrix) ↔ IsIn ideal v
 
 -- the element v times the matrix, as an element of B
 abbrev pub image : FiniteAlgebra → List (List ℕ) → List ℕ → List ℕ

@@ -1,5 +1,5 @@
 // A finite-dimensional commutative algebra by the products of its basis elements.
-ghost use Rattle.std.specs.Prelude.{◌≡◌, length, IfOk, IsTrue, false};
+ghost use Rattle.std.specs.Prelude.{◌≡◌, ℕ, ◌+◌, ◌*◌, ◌<◌, [], length, slice_index_or, All, IfOk, IsTrue, false};
 ghost use Rattle.comm_ring.specs.Ring.{IsCommRing, pow};
 ghost use Rattle.finite_algebra.specs.Elements.{BasisLawsSuffice};
 
@@ -8,6 +8,7 @@ use super::projecting::{at_all_places, free_places, image, image_products, reduc
 use lists::{List, NoMemory};
 use prime_field::Prime;
 use row_space::Space;
+use std::alloc::Global;
 use std::marker::Model;
 use std::mem;
 
@@ -35,8 +36,8 @@ impl Model for Algebra {
 }
 
 impl Algebra {
-    ghost use Rattle.finite_algebra.specs.Elements.{FiniteAlgebra, IsAlgebra, IsBilinear, IsElement, ring_of, times};
-    ghost use Rattle.finite_algebra.specs.Projections.{IsIdealOf, IsQuotient};
+    ghost use Rattle.finite_algebra.specs.Elements.{FiniteAlgebra, AreProducts, IsAlgebra, IsBilinear, IsElement, ring_of, times, unit_row};
+    ghost use Rattle.finite_algebra.specs.Projections.{IsGeneratedBy, IsIdealOf, IsProjection, IsQuotient};
 
     /// The algebra of dimension `n` with the row `one` as its one. The row i * n + j of `products` is
     /// the product of the basis elements i and j, so the product of the elements x and y is the sum
@@ -74,6 +75,11 @@ impl Algebra {
     {
         let _count = self.products.len();
         self.dimension as u32
+    }
+
+    /// The allocator of its rows.
+    pub fn allocator(&self) -> Global {
+        *self.products.allocator()
     }
 
     /// The one, as a row of n residues.
@@ -147,27 +153,118 @@ impl Algebra {
         mem::swap(row, spare);
     }
 
+    // The power by squares, from the highest binary digit of `n` on.
+    fn power_by_squares(&self, a: &[u32], n: u64) -> Result<Vec<u32>, NoMemory>
+        requires a { IsElement self.now a.now }
+        requires n { 0 < n }
+        ensures element { IfOk result (λ x. IsElement self.now x.items) }
+        ensures power { IfOk result (λ x. x.items ≡ pow (ring_of self.now) a.now n) }
+    {
+        let alloc = *self.products.allocator();
+        let _p = self.prime.get();
+        if n == 1 {
+            let row = copy_of(alloc, a)?;
+            return Ok(row);
+        }
+        let mut row = self.power_by_squares(a, n / 2)?;
+        let mut spare = zero_row(alloc, self.dimension)?;
+        self.square(&mut row, &mut spare);
+        self.multiply_if(n % 2 == 1, &mut row, a, &mut spare);
+        Ok(row)
+    }
+
     /// The element `a` to the power `n`; to the power 0 it is the one.
     ///
-    /// It takes a product for each binary digit of `n` and one more for each that is 1, over three
-    /// rows of memory.
+    /// It takes a product for each binary digit of `n` but the first, and for each further digit that is
+    /// 1 a product with `a`, over as many rows of memory as `n` has digits.
     pub fn power(&self, a: &[u32], n: u64) -> Result<List<u32>, NoMemory>
         requires { IsElement self.now a.now }
         ensures element { IfOk result (λ x. IsElement self.now x) }
         ensures power { IfOk result (λ x. x ≡ pow (ring_of self.now) a.now n) }
     {
+        let _one = self.one();
+        let _p = self.prime.get();
+        if n == 0 {
+            let one = copy_of(*self.products.allocator(), self.one())?;
+            return Ok(List::of_vec(one));
+        }
+        let row = self.power_by_squares(a, n)?;
+        Ok(List::of_vec(row))
+    }
+
+    /// The product of the basis elements `i` and `j`.
+    pub fn basis_product(&self, i: usize, j: usize) -> &[u32]
+        requires i { i < self.now.dimension }
+        requires j { j < self.now.dimension }
+        ensures { result.now ≡ slice_index_or self.now.products (i * self.now.dimension + j) [] }
+    {
+        let _p = self.prime.get();
+        self.products[i * self.dimension + j].as_slice()
+    }
+
+    // The product of the basis element `k` and `x`.
+    fn basis_multiple(&self, k: usize, x: &[u32]) -> Result<List<u32>, NoMemory>
+        requires k { k < self.now.dimension }
+        requires x { IsElement self.now x.now }
+        ensures element { IfOk result (λ row. IsElement self.now row) }
+        ensures product { IfOk result (λ row. row ≡ times self.now (unit_row self.now.dimension k) x.now) }
+    {
         let alloc = *self.products.allocator();
         let _p = self.prime.get();
-        let mut found = copy_of(alloc, self.one.as_slice())?;
-        let mut square = copy_of(alloc, a)?;
-        let mut spare = zero_row(alloc, self.dimension)?;
-        let mut rest = n;
-        while rest > 0 {
-            self.multiply_if(rest % 2 == 1, &mut found, square.as_slice(), &mut spare);
-            self.square(&mut square, &mut spare);
-            rest /= 2;
+        let from = k * self.dimension;
+        let rows = &self.products[from..from + self.dimension];
+        let row = image(alloc, self.prime, rows, self.dimension, x)?;
+        Ok(row)
+    }
+
+    /// The matrix of the multiplication by `x`: n rows, of which row k is the product of the basis
+    /// element k and `x`. The product of any element with `x` is its row times the matrix.
+    ///
+    /// It takes n * n multiples of rows with n entries.
+    pub fn multiplication(&self, x: &[u32]) -> Result<List<List<u32>>, NoMemory>
+        requires { IsElement self.now x.now }
+        ensures { IfOk result (λ rows. AreProducts self.now x.now rows) }
+    {
+        let _p = self.prime.get();
+        let mut rows = List::new(*self.products.allocator());
+        for k in 0..self.dimension {
+            let row = self.basis_multiple(k, x)?;
+            rows.push(row)?;
         }
-        Ok(List::of_vec(found))
+        Ok(rows)
+    }
+
+    /// The ideal that the elements generate: their multiples by the basis elements span it. It takes a
+    /// matrix of multiplication and n insertions into a space for each of them.
+    pub fn ideal(&self, generators: &[List<u32>]) -> Result<Space, NoMemory>
+        requires { All (IsElement self.now) generators.now }
+        ensures { IfOk result (λ space. IsGeneratedBy self.now generators.now space) }
+    {
+        let _one = self.one();
+        let _p = self.prime.get();
+        let mut space = Space::new(*self.products.allocator(), self.prime, self.dimension);
+        for i in 0..generators.len() {
+            let rows = self.multiplication(generators[i].as_slice())?;
+            space.add_rows(rows.as_slice())?;
+        }
+        Ok(space)
+    }
+
+    /// The matrix of the projection onto the quotient by an ideal: n rows of m residues, where m is the
+    /// dimension of the quotient.
+    ///
+    /// Its columns are the coordinates at the classes of the basis elements at which no row of the ideal
+    /// has its first entry that is not 0. It takes n looks at the basis of the ideal.
+    pub fn projection(&self, ideal: &Space) -> Result<List<List<u32>>, NoMemory>
+        requires { IsIdealOf self.now ideal.now }
+        ensures { IfOk result (λ matrix. (m : ℕ) → m + length ideal.now.basis ≡ self.now.dimension → IsProjection self.now ideal.now m matrix) }
+    {
+        let alloc = *self.products.allocator();
+        let _p = self.prime.get();
+        let units = reduced_units(alloc, ideal, self.dimension)?;
+        let places = free_places(alloc, units.as_slice())?;
+        let matrix = at_all_places(alloc, places.as_slice(), units.as_slice())?;
+        Ok(matrix)
     }
 
     /// The quotient by an ideal, and the matrix of the projection onto it: n rows of m residues, where

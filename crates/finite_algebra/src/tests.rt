@@ -1,6 +1,6 @@
 // Algebras over small fields, with values worked by hand.
-ghost use Rattle.std.specs.Prelude.{◌≡◌, ◌↔◌, ℕ, ◌<◌, IfOk, IsTrue, length};
-ghost use Rattle.finite_algebra.specs.Elements.{IsAlgebra, IsElement, times, unit_row};
+ghost use Rattle.std.specs.Prelude.{◌≡◌, ◌↔◌, IfOk, IsTrue, length};
+ghost use Rattle.finite_algebra.specs.Elements.{IsAlgebra, IsElement};
 ghost use Rattle.finite_algebra.specs.Projections.{IsIdealOf};
 
 use super::Algebra;
@@ -111,33 +111,14 @@ fn check_powers<const N: usize>(
     Ok(())
 }
 
-// The product of the basis element `k` and the row.
-fn unit_multiple(alloc: Global, a: &Algebra, k: usize, row: &[u32]) -> Result<Vec<u32>, NoMemory>
-    requires k { k < a.now.dimension }
-    requires row { IsElement a.now row.now }
-    ensures element { IfOk result (λ made. IsElement a.now made.items) }
-    ensures product { IfOk result (λ made. made.items ≡ times a.now (unit_row a.now.dimension k) row.now) }
-{
-    let _p = a.prime().get();
-    let mut unit = zero_row(alloc, a.dimension())?;
-    unit[k] = 1;
-    let mut out = zero_row(alloc, a.dimension())?;
-    a.product(unit.as_slice(), row, out.as_mut_slice());
-    Ok(out)
-}
-
 // The ideal that the row generates.
 fn ideal_of(rt: &impl Abort, alloc: Global, a: &Algebra, row: &[u32]) -> Result<Space, NoMemory>
     ensures { IfOk result (λ ideal. IsIdealOf a.now ideal) }
 {
     assert!(rt; is_element(a, row));
-    let _one = a.one();
-    let _p = a.prime().get();
-    let mut ideal = Space::new(alloc, a.prime(), a.dimension());
-    for k in 0..a.dimension() {
-        let multiple = unit_multiple(alloc, a, k, row)?;
-        let _residues = ideal.insert(multiple.as_slice())?;
-    }
+    let mut generators = List::new(alloc);
+    generators.push(List::of_vec(copy_of(alloc, row)?))?;
+    let ideal = a.ideal(generators.as_slice())?;
     Ok(ideal)
 }
 
@@ -265,5 +246,27 @@ fn quotients(rt: HostRuntime) -> Result<(), Fail> {
         &[[], [], []],
         &[[[], [], []]],
     )?;
+    Ok(())
+}
+
+// The multiplication by x, a product of the basis, the ideal of x^2 - 1 and x^2 - x, and the
+// projection modulo x.
+#[test]
+fn matrices_and_ideals(rt: HostRuntime) -> Result<(), Fail> {
+    let three = three_points(&rt, rt.alloc())?;
+    assert!(rt; is_element(&three, &[0, 1, 0]));
+    let matrix = three.multiplication(&[0, 1, 0])?;
+    assert!(rt; has_rows(matrix.as_slice(), &[[0, 1, 0], [0, 0, 1], [0, 1, 0]]));
+    assert_eq!(rt; three.dimension(), 3);
+    assert_eq!(rt; three.basis_product(1, 2), [0, 1, 0].as_slice());
+    let mut generators = List::new(rt.alloc());
+    for row in [[6, 0, 1], [0, 6, 1]] {
+        assert!(rt; is_element(&three, &row));
+        generators.push(List::of_vec(copy_of(rt.alloc(), &row)?))?;
+    }
+    let ideal = three.ideal(generators.as_slice())?;
+    assert!(rt; has_rows(ideal.rows(), &[[1, 0, 6], [0, 1, 6]]));
+    let x = ideal_of(&rt, rt.alloc(), &three, &[0, 1, 0])?;
+    assert!(rt; has_rows(three.projection(&x)?.as_slice(), &[[1], [0], [0]]));
     Ok(())
 }

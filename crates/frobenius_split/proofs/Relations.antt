@@ -9,11 +9,11 @@ use Rattle.comm_ring.specs.Ideals.{IsIdeal}
 use Rattle.comm_ring.proofs.Derived as Derived
 use Rattle.comm_ring.proofs.Quote.{ring, ring_by, fact, quote}
 use Rattle.row_space.specs.Subspace.{Subspace, IsIn, DifferIn, IsZero, product}
-use Rattle.finite_algebra.specs.Elements.{FiniteAlgebra, IsAlgebra, elements, ring_of}
+use Rattle.finite_algebra.specs.Elements.{AreProducts, FiniteAlgebra, IsAlgebra, elements, ring_of}
 use Rattle.finite_algebra.specs.Projections.{IsIdealOf}
-use Rattle.frobenius_split.specs.Parts.{AreProducts, polynomial}
+use Rattle.frobenius_split.specs.Parts.{polynomial}
 use Rattle.frobenius_split.proofs.Ground as Ground
-use Rattle.frobenius_split.proofs.GraphLaws.{product-times}
+use Rattle.finite_algebra.proofs.Multiplication.{product-times}
 use Rattle.frobenius_split.proofs.SplitLaws.{power_next}
 
 -- an image does not depend on how its parts are written
@@ -101,5 +101,5 @@ module _ (A : FiniteAlgebra) (prime : IsPrime A.prime) (a : IsAlgebra A) where
       → (u : List ℕ) → AreProducts A u table → DifferIn J x (power u (length rows)) → DifferIn J made (power u (length new))
   next_power J q table rows new x next made is pushed same u products last =
       let long : suc (length rows) ≡ length new = omega (arith, ap length pushed, length-append rows (x ∷ [])) in
-      let times_u : next ≈ x ⊗ u = R.trans (Derived.of_path R is) (product-times A prime a u table products x) in
+      let times_u : next ≈ x ⊗ u = R.trans (Derived.of_path R is) (product-times A (Ground.positive A prime a) u table products x) in
       subst (λ n. DifferIn J made (power u n)) long (power_next A prime a J q u x next made (length rows) times_u last same)

@@ -7,7 +7,7 @@ ghost use Rattle.row_space.specs.Subspace.{product};
 ghost use Rattle.finite_algebra.specs.Elements.{IsElement, ring_of};
 ghost use Rattle.frobenius_split.specs.Parts.{ArePowers, AreProductsOfPair, IsGraph, IsPair, IsPowerOfUnit};
 
-use super::rows::{copy_of, multiplication, unit_row, zero_row};
+use super::rows::{copy_of, unit_row, zero_row};
 use finite_algebra::{Algebra, image};
 use lane_rows::first_nonzero;
 use lists::{List, NoMemory};
@@ -130,8 +130,8 @@ fn close(
     requires power { y.now ≡ pow (ring_of a.now) x.now a.now.prime }
     ensures { OnOk result (IsGraph a.now graph.new) }
 {
-    let left = multiplication(alloc, a, x)?;
-    let right = multiplication(alloc, a, y)?;
+    let left = a.multiplication(x)?;
+    let right = a.multiplication(y)?;
     let mut pairs = basis_of(alloc, a, graph)?;
     for _round in 0..a.dimension() {
         pairs = step(

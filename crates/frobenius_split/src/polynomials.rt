@@ -4,9 +4,9 @@ ghost use Rattle.comm_ring.specs.Ring.{pow};
 ghost use Rattle.lane_rows.specs.Rows.{AreResidues};
 ghost use Rattle.row_space.specs.Echelon.{IsRow};
 ghost use Rattle.row_space.specs.Subspace.{IsIn, DifferIn};
-ghost use Rattle.finite_algebra.specs.Elements.{IsElement, ring_of};
+ghost use Rattle.finite_algebra.specs.Elements.{AreProducts, IsElement, ring_of};
 ghost use Rattle.finite_algebra.specs.Projections.{IsIdealOf};
-ghost use Rattle.frobenius_split.specs.Parts.{AreProducts, polynomial};
+ghost use Rattle.frobenius_split.specs.Parts.{polynomial};
 ghost use Rattle.frobenius_split.specs.Parts.{value as value_of};
 
 use super::rows::copy_of;

@@ -2,12 +2,10 @@
 ghost use Rattle.std.specs.Prelude.{◌≡◌, ℕ, ◌+◌, ◌-◌, ◌%◌, ◌<◌, length, replicate, slice_index, slice_set, All, IfOk, OnOk};
 ghost use Rattle.row_space.specs.Echelon.{IsRow};
 ghost use Rattle.row_space.specs.Subspace.{FitsIn};
-ghost use Rattle.finite_algebra.specs.Elements.{IsElement, times};
 ghost use Rattle.lane_rows.specs.Rows.{AreResidues};
 ghost use Rattle.finite_algebra.specs.Elements.{unit_row as the_unit_row};
-ghost use Rattle.frobenius_split.specs.Parts.{AreProducts, AreLess, Adds};
+ghost use Rattle.frobenius_split.specs.Parts.{AreLess, Adds};
 
-use finite_algebra::Algebra;
 use lists::{List, NoMemory};
 use prime_field::Prime;
 use row_space::Space;
@@ -33,37 +31,6 @@ pub(crate) fn unit_row(alloc: Global, length: usize, k: usize) -> Result<Vec<u32
     let mut row = zero_row(alloc, length)?;
     row[k] = 1;
     Ok(row)
-}
-
-// The product of the basis element k and x.
-fn unit_multiple(alloc: Global, a: &Algebra, k: usize, x: &[u32]) -> Result<Vec<u32>, NoMemory>
-    requires k { k < a.now.dimension }
-    requires x { IsElement a.now x.now }
-    ensures element { IfOk result (λ made. IsElement a.now made.items) }
-    ensures product { IfOk result (λ made. made.items ≡ times a.now (the_unit_row a.now.dimension k) x.now) }
-{
-    let _p = a.prime().get();
-    let unit = unit_row(alloc, a.dimension(), k)?;
-    let mut out = zero_row(alloc, a.dimension())?;
-    a.product(unit.as_slice(), x, out.as_mut_slice());
-    Ok(out)
-}
-
-// The products of the basis elements with x.
-pub(crate) fn multiplication(
-    alloc: Global,
-    a: &Algebra,
-    x: &[u32],
-) -> Result<List<List<u32>>, NoMemory>
-    requires { IsElement a.now x.now }
-    ensures { IfOk result (λ rows. AreProducts a.now x.now rows) }
-{
-    let mut rows = List::new(alloc);
-    for k in 0..a.dimension() {
-        let row = unit_multiple(alloc, a, k, x)?;
-        rows.push(List::of_vec(row))?;
-    }
-    Ok(rows)
 }
 
 // The row with c taken off at the place k.

@@ -3,16 +3,16 @@ ghost use Rattle.std.specs.Prelude.{◌≡◌, ◌≢◌, ℕ, ◌+◌, ◌*◌,
 ghost use Rattle.comm_ring.specs.Ring.{pow};
 ghost use Rattle.lane_rows.specs.Rows.{AreResidues};
 ghost use Rattle.row_space.specs.Subspace.{IsIn, Subspace};
-ghost use Rattle.finite_algebra.specs.Elements.{IsElement, elements, ring_of};
+ghost use Rattle.finite_algebra.specs.Elements.{AreProducts, IsElement, elements, ring_of};
 ghost use Rattle.finite_algebra.specs.Projections.{IsIdealOf};
 ghost use Rattle.frobenius_split.specs.Points.{IsRadicalOf, IsMaximalIdeal, AreMaximalIdeals, at};
-ghost use Rattle.frobenius_split.specs.Parts.{AreProducts, AreProductsOfFixed, AreFixed, AreParts, ArePartsOf, AreSplitTo, HasImproperPart, HasNoValue, HasValue, IsNext, IsPart, IsPartOf, Adds, polynomial};
+ghost use Rattle.frobenius_split.specs.Parts.{AreProductsOfFixed, AreFixed, AreParts, ArePartsOf, AreSplitTo, HasImproperPart, HasNoValue, HasValue, IsNext, IsPart, IsPartOf, Adds, polynomial};
 
 use super::frobenius::{fixed_elements, nilpotent_elements};
 use super::graph::powers;
 use super::parts_are_maximal;
 use super::polynomials::{value_at, vanishing};
-use super::rows::{add_rows, copy_of, less_scalar, multiplication};
+use super::rows::{add_rows, copy_of, less_scalar};
 use finite_algebra::Algebra;
 use lane_rows::first_nonzero;
 use lists::{List, NoMemory};
@@ -27,23 +27,17 @@ pub struct SplitPoint {
     pub degree: u32,
 }
 
-// The allocator of an algebra's rows.
-fn allocator_of(a: &Algebra) -> Result<Global, NoMemory> {
-    let _one = a.one();
-    let one = a.power(a.one(), 0)?;
-    Ok(*one.into_vec().allocator())
-}
-
 /// The nilpotent elements.
 pub fn radical(a: &Algebra) -> Result<Space, NoMemory>
     ensures { IfOk result (λ space. IsRadicalOf a.now space) }
 {
-    let alloc = allocator_of(a)?;
+    let alloc = a.allocator();
     let matrix = powers(alloc, a)?;
     let space = nilpotent_elements(alloc, a, matrix.as_slice())?;
     Ok(space)
 }
 
+// Whether the row is c times the other.
 fn is_multiple(prime: Prime, c: u32, one: &[u32], row: &[u32]) -> bool
     requires c { c < prime }
     requires long { length one.now ≡ length row.now }
@@ -216,7 +210,7 @@ fn split(
         let whole = alone(alloc, a, ideal, elements, k)?;
         return Ok(whole);
     }
-    let table = multiplication(alloc, a, u)?;
+    let table = a.multiplication(u)?;
     let coefficients = vanishing(alloc, a, ideal, u, table.as_slice())?;
     let mut parts = List::new(alloc);
     for c in 0..p {
@@ -308,7 +302,7 @@ pub fn points(a: &Algebra) -> Result<List<SplitPoint>, NoMemory>
     ensures ideals { IfOk result (λ points. AreMaximalIdeals a.now (map (λ point. point.space) points)) }
     ensures degrees { IfOk result (λ points. All (λ point. point.degree + length point.space.basis ≡ a.now.dimension) points) }
 {
-    let alloc = allocator_of(a)?;
+    let alloc = a.allocator();
     let _one = a.one();
     let _p = a.prime().get();
     let mut found = List::new(alloc);

@@ -60,6 +60,13 @@ impl Space {
         }
     }
 
+    /// The prime p.
+    pub fn prime(&self) -> Prime
+        ensures { result ≡ self.now.prime }
+    {
+        self.prime
+    }
+
     /// Adds the row, unless it is in the space: then the answer says which sum of basis rows it is.
     /// Where there is no memory, the space stays.
     pub fn insert(&mut self, row: &[u32]) -> Result<Insert, NoMemory>
@@ -175,8 +182,9 @@ impl Space {
         }
     }
 
-    // Adds the rows.
-    fn put_rows(&mut self, rows: &[List<u32>]) -> Result<(), NoMemory>
+    /// Adds the rows; afterwards the space is spanned by its old basis and them. It takes for each row
+    /// at most as many multiples of rows as twice the dimension.
+    pub fn add_rows(&mut self, rows: &[List<u32>]) -> Result<(), NoMemory>
         requires { All (FitsIn self.old) rows.now }
         ensures { OnOk result (Joins self.old rows.now self.new) }
     {
@@ -286,8 +294,8 @@ impl Space {
         ensures members { IfOk result (λ s. (f : List ℕ) → IsIn s f ↔ IsSumOf self.now other.now f) }
     {
         let mut whole = Space::new(*self.rows.allocator(), self.prime, self.width);
-        whole.put_rows(self.rows())?;
-        whole.put_rows(other.rows())?;
+        whole.add_rows(self.rows())?;
+        whole.add_rows(other.rows())?;
         Ok(whole)
     }
 

@@ -1,7 +1,7 @@
 use Rattle.std.proofs.Common.{◌<◌, [], length, arith, refl, ◌∙◌}
 use Rattle.std.proofs.lemmas.List.{get_or_default}
 use Rattle.row_space.proofs.Gathering.{joins_nothing, joins_more, joins_all, fits_moved}
-use Rattle.row_space.proofs.space.Space.put_rows.Goals as goal
+use Rattle.row_space.proofs.space.Space.add_rows.Goals as goal
 
 pub loop-i-init : goal.loop-i-init
 loop-i-init c = joins_nothing c.args.self.now [] refl
