@@ -15,7 +15,7 @@ use Rattle.row_space.specs.Echelon.{IsRow}
 use Rattle.row_space.specs.Subspace.{Subspace, FitsIn, IsIn, Joins}
 use Rattle.row_space.proofs.Members.{span_of}
 use Rattle.finite_algebra.specs.Elements.{FiniteAlgebra, AreProducts, IsAlgebra, IsElement, elements, ring_of, times, unit_row}
-use Rattle.finite_algebra.specs.Projections.{IsGeneratedBy, IsIdealOf}
+use Rattle.finite_algebra.specs.Projections.{IsGeneratedBy}
 use Rattle.finite_algebra.proofs.Multiplication.{product-times}
 use Rattle.finite_algebra.proofs.Products.{left_linear, module_of, reduced, reduced_fits, right_linear, ring_from, times_fits}
 use Rattle.finite_algebra.proofs.Totals.{linear-origin}

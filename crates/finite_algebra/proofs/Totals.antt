@@ -1,7 +1,6 @@
 -- Sums in a module, and maps that keep sums and multiples.
-use Rattle.std.proofs.Common.{◌≡◌, ℕ, zero, suc, ◌+◌, ◌<◌, List, [], ◌∷◌, ◌++◌, ap, subst, ◌∙◌, arith, ⊎_elim, length, get_or}
+use Rattle.std.proofs.Common.{◌≡◌, ℕ, zero, suc, ◌<◌, List, [], ◌∷◌, ap, subst, arith, ⊎_elim, length, get_or}
 use Rattle.std.proofs.lemmas.Bool.{cases_eq}
-use Rattle.std.specs.List.{range_with_len}
 use Rattle.comm_ring.specs.Ring.{CommRing}
 use Rattle.comm_ring.specs.Sums.{joined, below}
 use Rattle.comm_ring.specs.Modules.{ModuleOps, IsSubmodule, combine, combination}

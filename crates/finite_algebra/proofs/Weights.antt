@@ -1,10 +1,8 @@
 -- Sums of multiples of rows, as the code adds them.
-use Rattle.std.proofs.Common.{◌≡◌, ℕ, ◌+◌, ◌*◌, ◌%◌, ◌<◌, List, [], ◌∷◌, ◌++◌, length, take, get_or, sym, ap, ◌∙◌, arith, length-take}
+use Rattle.std.proofs.Common.{◌≡◌, ℕ, ◌+◌, ◌*◌, ◌%◌, ◌<◌, List, [], ◌∷◌, length, take, get_or, sym, ap, ◌∙◌, arith, length-take}
 use Rattle.std.proofs.lemmas.List.{take_more}
-use Rattle.std.proofs.Math.Nat.{add-mod, zero-mod, mod-eq_of_lt}
+use Rattle.std.proofs.Math.Nat.{mod-eq_of_lt}
 use Rattle.std.proofs.Math.Seq.{take-length}
-use Rattle.comm_ring.specs.Modules.{combine, combination}
-use Rattle.comm_ring.specs.Rows.{rows}
 use Rattle.comm_ring.proofs.Residues.{mod_ring, mod_quote}
 use Rattle.row_space.specs.Sums.{weighted}
 use Rattle.row_space.proofs.Weights.{weighted-append}

@@ -1,5 +1,5 @@
 -- The algebras of the tests.
-use Rattle.std.proofs.Common.{List, [], ◌∷◌, refl, arith}
+use Rattle.std.proofs.Common.{[], ◌∷◌, refl, arith}
 use Rattle.comm_ring.specs.Sums.{joined}
 use Rattle.finite_algebra.specs.Elements.{FiniteAlgebra, IsAlgebra}
 use Rattle.finite_algebra.proofs.Examples.{has_laws, shape, neutral, commutative, associative, holds_below, same_row, fits}

@@ -1,6 +1,5 @@
 -- Sums of multiples of rows in the module of all rows.
-use Rattle.std.proofs.Common.{◌≡◌, ℕ, ◌+◌, ◌*◌, ◌%◌, ◌<◌, List, [], ◌∷◌, get_or, map, sym, ap, ◌∙◌, arith}
-use Rattle.std.specs.List.{range_with_len}
+use Rattle.std.proofs.Common.{◌≡◌, ℕ, ◌+◌, ◌*◌, ◌%◌, ◌<◌, List, [], ◌∷◌, get_or, sym, ap, ◌∙◌}
 use Rattle.std.proofs.Math.Nat.{mod-mod, add-mod, zero-mod}
 use Rattle.comm_ring.specs.Modules.{combine, combination, InSpan}
 use Rattle.comm_ring.specs.Rows.{rows}

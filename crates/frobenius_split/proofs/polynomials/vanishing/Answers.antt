@@ -1,7 +1,6 @@
 -- A row of relations gives a polynomial in the ideal.
-use Rattle.std.proofs.Common.{◌≡◌, ◌∙◌, ◌⊎◌, inl, inr, List, ℕ, length, subst, ap, ⊎_elim}
+use Rattle.std.proofs.Common.{◌∙◌, ◌⊎◌, inl, inr, length, subst, ap, ⊎_elim}
 use Rattle.prime_field.specs.Primes.{IsPrime}
-use Rattle.row_space.specs.Subspace.{IsZero, product}
 use Rattle.frobenius_split.proofs.Relations.{vanishing_law, zero_of}
 use Rattle.frobenius_split.proofs.polynomials.vanishing.Goals as goal
 

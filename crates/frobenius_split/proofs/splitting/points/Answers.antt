@@ -1,12 +1,11 @@
 -- Each ideal that is taken is maximal, and the point that is made of it is that of the ideal.
-use Rattle.std.proofs.Common.{◌≡◌, ◌∙◌, ◌+◌, ◌<◌, ◌++◌, ◌∷◌, [], length, map, get_or, sym, ap, subst}
+use Rattle.std.proofs.Common.{◌≡◌, ◌∙◌, ◌+◌, ◌++◌, ◌∷◌, [], length, map, sym, ap, subst}
 use Rattle.std.specs.List.{All}
 use Rattle.std.proofs.lemmas.List.{map-append, get_or_default}
 use Rattle.std.proofs.lemmas.List.Elements.{All-push}
 use Rattle.std.proofs.lemmas.Iterator.Consumers.{YieldsList-turn}
 use Rattle.std.proofs.lemmas.Iterator.Adapters.{YieldsList-from_vec}
-use Rattle.row_space.specs.Subspace.{Subspace}
-use Rattle.frobenius_split.specs.Points.{IsMaximalIdeal, AreMaximalIdeals, at}
+use Rattle.frobenius_split.specs.Points.{IsMaximalIdeal, AreMaximalIdeals}
 use Rattle.frobenius_split.specs.declared.splitting.SplitPoint.{SplitPoint}
 use Rattle.frobenius_split.proofs.splitting.points.Goals as goal
 

@@ -1,4 +1,4 @@
-use Rattle.std.proofs.Common.{◌≡◌, ◌<◌, ◌∙◌, length, arith, ap, subst}
+use Rattle.std.proofs.Common.{◌<◌, ◌∙◌, arith, ap, subst}
 use Rattle.finite_algebra.specs.Elements.{FiniteAlgebra, IsAlgebra}
 use Rattle.finite_algebra.proofs.Powers.{power-one, power_step}
 use Rattle.finite_algebra.proofs.algebra.Algebra.+power_by_squares.Goals as goal

@@ -1,4 +1,4 @@
-use Rattle.std.proofs.Common.{◌<◌, ◌∙◌, arith, ap, subst}
+use Rattle.std.proofs.Common.{◌<◌, ◌∙◌, arith, ap}
 use Rattle.finite_algebra.specs.Elements.{FiniteAlgebra}
 use Rattle.finite_algebra.proofs.Powers.{power-none}
 use Rattle.finite_algebra.proofs.algebra.Algebra.power.Goals as goal

@@ -1,4 +1,4 @@
-use Rattle.std.proofs.Common.{◌≡◌, ◌≤◌, ◌+◌, ◌∙◌, ℕ, List, length, map, arith, ap, ap₂, subst, sym}
+use Rattle.std.proofs.Common.{◌≡◌, ◌≤◌, ◌∙◌, ℕ, List, length, map, arith, ap, ap₂, subst, sym}
 use Rattle.row_space.specs.Echelon.{entries_at}
 use Rattle.finite_algebra.specs.Elements.{FiniteAlgebra}
 use Rattle.finite_algebra.specs.Projections.{AreFree, IsIdealOf, IsProjection}
