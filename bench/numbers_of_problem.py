@@ -81,7 +81,7 @@ class Reader:
 
 def homogenised(f, variables):
     """Pairs of a coefficient and the exponents of the first variables and the homogenising one."""
-    degree = max(sum(mono) for mono in f)
+    degree = max((sum(mono) for mono in f), default=0)
     return [(coeff, mono[:variables] + (degree - sum(mono),)) for mono, coeff in f.items()]
 
 
