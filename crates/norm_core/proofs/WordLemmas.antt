@@ -1,7 +1,7 @@
 -- Words that ask for a cap.
-use Rattle.std.proofs.Common.{◌≡◌, ℕ, List, [], ◌∷◌, length, map, get_or, codes, sym, ap, ◌∙◌, subst, arith, Option, None, Some}
+use Rattle.std.proofs.Common.{◌≡◌, ℕ, List, [], ◌∷◌, ◌++◌, length, map, get_or, codes, sym, ap, ◌∙◌, subst, arith, Option, None, Some}
 use Rattle.std.specs.Prelude.{IfSome}
-use Rattle.norm_core.specs.Words.{IsCap, plain, apart, joined}
+use Rattle.norm_core.specs.Words.{IsCap, AskUnder, plain, apart, joined}
 
 -- a list of two, and one of three
 pub two_words : {S : Type 0} (f : S → List ℕ) (ws : List S) (x y : S) → length ws ≡ 2 → x ≡ get_or ws 0 x → y ≡ get_or ws 1 y

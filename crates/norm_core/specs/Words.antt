@@ -1,5 +1,5 @@
 -- The words after the program's name.
-use Rattle.std.specs.Prelude.{ℕ, ◌≡◌, ◌≤◌, List, [], ◌∷◌, length, codes, IsTrue}
+use Rattle.std.specs.Prelude.{ℕ, ◌≡◌, ◌≤◌, List, [], ◌∷◌, ◌++◌, length, codes, IsTrue}
 use Rattle.module_basis.specs.declared.cap.TheConstants.{MAX_CAP}
 use Rattle.poly_text.specs.Digits.{number}
 use Rattle.problem_form.specs.Words.{is_number}
