@@ -4,13 +4,10 @@ ghost use Rattle.polys.specs.Curve.{IsOver};
 ghost use Rattle.polys.specs.Terms.{IsPoly};
 
 use super::{Lifted, ideal_basis};
-use denominator_module::{first_part, second_part};
-use homogenising::laws::{homogenising_is_undone, reduced_bases_have_all_leads};
-use homogenising::{dehomogenised, homogenised_to};
 use lists::List;
-use module_basis::{BasisStop, Gens, interreduced, remainder};
+use module_basis::BasisStop;
 use monomials::Mono;
-use polys::{Poly, Term, are_same};
+use polys::{Poly, Term};
 use prime_field::Prime;
 use standard_monomials::Dimension;
 use std::alloc::Global;
@@ -303,91 +300,5 @@ fn dimensions(rt: HostRuntime) -> Result<(), Fail> {
     assert!(rt; plane_dimension(alloc, p, cusp, &[(1, 0, 0)], 0)? == Dimension::Finite(0));
     assert!(rt; plane_dimension(alloc, p, cross, x, 100)? == Dimension::Infinite);
     assert!(rt; plane_dimension(alloc, p, cusp, x, u32::MAX)? == Dimension::Finite(2));
-    Ok(())
-}
-
-// The term of the monomial x^i y^j with this homogenising exponent and component, if it is in range.
-fn is_term(t: &Term, row: Row, hom: u32, component: u32) -> bool {
-    t.coeff == row.0
-        && t.mono.exponent(0) == row.1
-        && t.mono.exponent(1) == row.2
-        && t.mono.hom() == hom
-        && t.mono.component() == component
-}
-
-#[test]
-fn homogenised_and_back(rt: HostRuntime) -> Result<(), Fail> {
-    let alloc = rt.alloc();
-    let p = Prime::new(7).ok_or("7 is in the table")?;
-    let f = polynomial(alloc, p, &[(1, 3, 0), (6, 0, 2)])?;
-    let degree = f.degree();
-    if degree > 100 {
-        return Err("the degree is too high".into());
-    }
-    // x^3 - y^2 becomes x^3 - y^2 h
-    homogenising_is_undone();
-    let g = homogenised_to(alloc, 6, degree, &f)?;
-    let wanted = [((1, 3, 0), 0), ((6, 0, 2), 1)];
-    assert!(rt; g.terms().len() == 2);
-    for (t, (row, hom)) in g.terms().iter().zip(wanted) {
-        assert!(rt; is_term(t, row, hom, 0));
-    }
-    assert!(rt; dehomogenised(alloc, 6, &g)?.same(&f));
-    Ok(())
-}
-
-#[test]
-fn parts_of_a_pair(rt: HostRuntime) -> Result<(), Fail> {
-    let alloc = rt.alloc();
-    let p = Prime::new(7).ok_or("7 is in the table")?;
-    // the pair (x, 3 y)
-    let first = polynomial(alloc, p, &[(1, 1, 0)])?;
-    let second = Term {
-        coeff: 3,
-        mono: Mono::var(1).with_component(1),
-    };
-    let pair = first.add(&Poly::from_term(alloc, p, second)?)?;
-    assert!(rt; first_part(alloc, &pair)?.same(&first));
-    assert!(rt; second_part(alloc, &pair)?.same(&polynomial(alloc, p, &[(3, 0, 1)])?));
-    Ok(())
-}
-
-#[test]
-fn generators_are_homogenised(rt: HostRuntime) -> Result<(), Fail> {
-    let alloc = rt.alloc();
-    let p = Prime::new(7).ok_or("7 is in the table")?;
-    let mut ideal = List::new(alloc);
-    put(alloc, p, &[(1, 1, 1), (1, 0, 0)], &mut ideal)?;
-    // x y + 1 becomes x y + h^2
-    let gens = Gens::homogenised(alloc, p, 6, ideal.as_slice())?;
-    let wanted = [((1, 1, 1), 0), ((1, 0, 0), 2)];
-    assert!(rt; gens.shift == 0 && gens.vectors.len() == 1);
-    for v in gens.vectors.as_slice() {
-        assert!(rt; v.terms().len() == 2);
-        for (t, (row, hom)) in v.terms().iter().zip(wanted) {
-            assert!(rt; is_term(t, row, hom, 0));
-        }
-    }
-    Ok(())
-}
-
-#[test]
-fn remainders(rt: HostRuntime) -> Result<(), Fail> {
-    let alloc = rt.alloc();
-    let p = Prime::new(7).ok_or("7 is in the table")?;
-    // modulo x^3 - y^2 the remainder of x^4 + x is x y^2 + x
-    let mut cusp = List::new(alloc);
-    put(alloc, p, &[(1, 3, 0), (6, 0, 2)], &mut cusp)?;
-    let basis = match ideal_basis(alloc, p, 6, cusp.as_slice(), 100) {
-        Ok(basis) => basis,
-        Err(_) => return Err("deep, or no memory".into()),
-    };
-    let f = polynomial(alloc, p, &[(1, 4, 0), (1, 1, 0)])?;
-    let rest = remainder(6, &f, basis.as_slice())?;
-    assert!(rt; rest.same(&polynomial(alloc, p, &[(1, 1, 2), (1, 1, 0)])?));
-    // a reduced basis stays as it is
-    reduced_bases_have_all_leads();
-    let again = interreduced(alloc, p, 6, basis.as_slice())?;
-    assert!(rt; are_same(again.as_slice(), basis.as_slice()));
     Ok(())
 }
