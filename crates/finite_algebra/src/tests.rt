@@ -249,23 +249,15 @@ fn quotients(rt: HostRuntime) -> Result<(), Fail> {
     Ok(())
 }
 
-// The multiplication by x, a product of the basis, the ideal of x^2 - 1 and x^2 - x, and the
-// projection modulo x.
+// The multiplication by x, a product of the basis, and the projection modulo x.
 #[test]
-fn matrices_and_ideals(rt: HostRuntime) -> Result<(), Fail> {
+fn matrices_and_projections(rt: HostRuntime) -> Result<(), Fail> {
     let three = three_points(&rt, rt.alloc())?;
     assert!(rt; is_element(&three, &[0, 1, 0]));
     let matrix = three.multiplication(&[0, 1, 0])?;
     assert!(rt; has_rows(matrix.as_slice(), &[[0, 1, 0], [0, 0, 1], [0, 1, 0]]));
     assert_eq!(rt; three.dimension(), 3);
     assert_eq!(rt; three.basis_product(1, 2), [0, 1, 0].as_slice());
-    let mut generators = List::new(rt.alloc());
-    for row in [[6, 0, 1], [0, 6, 1]] {
-        assert!(rt; is_element(&three, &row));
-        generators.push(List::of_vec(copy_of(rt.alloc(), &row)?))?;
-    }
-    let ideal = three.ideal(generators.as_slice())?;
-    assert!(rt; has_rows(ideal.rows(), &[[1, 0, 6], [0, 1, 6]]));
     let x = ideal_of(&rt, rt.alloc(), &three, &[0, 1, 0])?;
     assert!(rt; has_rows(three.projection(&x)?.as_slice(), &[[1], [0], [0]]));
     Ok(())
