@@ -21,7 +21,7 @@ use Rattle.module_division.specs.Division.{Reduces}
 use Rattle.module_basis.specs.declared.gens.Gens.{Gens}
 use Rattle.module_basis.specs.declared.growing.Growing.{Growing}
 use Rattle.module_basis.specs.declared.pairs.Pair.{Pair}
-use Rattle.module_basis.specs.Growing.{pair_of, AreOfOneComponent, IsPair, IsSettledPair, IsAwaited, AreAwaited, IsGrown, IsGrowing, GainsPairs, GainsVector, IsMemberAt, IsNewAt, IsBelowAll}
+use Rattle.module_basis.specs.Growing.{pair_of, AreOfOneComponent, IsPair, IsSettledPair, IsSettledPairOf, IsAwaited, AreAwaited, IsGrown, IsGrowing, GainsPairs, GainsVector, IsMemberAt, IsNewAt, IsBelowAll}
 use Rattle.module_basis.proofs.Pairing.{paired}
 use Rattle.module_division.proofs.Lists.{count_lists, lists_append, member_left, contains_more, divisor_vectors}
 use Rattle.module_basis.proofs.Growth.{grown_new, pair_more, awaited_more, one_component_back, divisors, program_vector, nothing_in, nothing_below, new_is, new_in, new_below, generators_new}
@@ -207,26 +207,6 @@ module _ (gens : Gens) (e : ℕ) (low : e ≤ 1000) (prime : IsPrime gens.prime)
       (subst (λ x. IsSettled p n gens.shift cs x (member bs q.second)) mi
       (below (lead_lcm (member bs q.first) (member bs q.second)) (sym pair.degree ∙ degree) (s_vector_law.below p n gens.shift (member bs q.first) (member bs q.second) s_paired)))
 
--- a pair of higher degree waits
-pub waits_on : (gens : Gens) (e : ℕ) (old new : Growing) (q : Pair) → new.cap ≡ old.cap → new.basis.items ≡ old.basis.items → new.pairs.items ≡ old.pairs.items ++ q ∷ [] → e < q.degree
-    → GainsVector gens e old new
-waits_on gens e old new q c v p l = record {
-  cap = c;
-  more = [];
-  vectors = v ∙ sym (append-nil old.basis.items);
-  more_pairs = q ∷ [];
-  pairs = p;
-  late = All-cons (λ q. e < q.degree) q [] l (All-nil (λ q. e < q.degree));
-  awaited = λ ps h. subst (λ fs. AreAwaited gens old.cap (terms_of fs) (new.pairs.items ++ ps) (length fs)) (sym v)
-      (λ i j r k one. awaited_pairs gens old.cap (terms_of old.basis.items) (old.pairs.items ++ ps) (new.pairs.items ++ ps) i j (kept ps) (h i j r k one));
-}
-  where
-    kept : (ps : List Pair) (x : Pair) → Contains (old.pairs.items ++ ps) x → Contains (new.pairs.items ++ ps) x
-    kept ps x c = elim (Contains-append_cases old.pairs.items ps x c) [
-      | inl a ↦ Contains-append_left new.pairs.items ps x (subst (λ l. Contains l x) (sym p) (Contains-append_left old.pairs.items (q ∷ []) x a))
-      | inr b ↦ Contains-append_right new.pairs.items ps x b
-    ]
-
 -- a homogeneous vector of the generators
 pub generator_at : (gens : Gens) (e : ℕ) (v : Polynomial) → e ≤ 1000 → IsHomogeneousOver gens.prime gens.variables gens.shift v → degree_at gens.shift (lead_mono v.terms) ≡ e
     → InModule gens.prime gens.variables (terms_of gens.vectors) v.terms → IsMemberAt gens e v.terms
@@ -234,9 +214,9 @@ generator_at gens e v low h q i =
     let d = subst (λ k. IsOfDegree gens.shift k v.terms) q (same_degrees gens.prime gens.variables gens.shift v.terms h.vector) in
     record { vector = program_vector gens.prime gens.variables gens.shift e v.terms h.vector.vector d (omega arith); graded = h.vector.vector; degree = d; member = i }
 
--- the pair that was gone through waits no longer
+-- the pair that is settled waits no longer
 pub gone_through : (gens : Gens) (cap : ℕ) (bs : List (List Term)) (ps rest : List Pair) (q : Pair) (limit : ℕ)
-    → IsSettledPair gens bs q.first q.second ⊎ Contains ps q → AreAwaited gens cap bs (ps ++ q ∷ rest) limit → AreAwaited gens cap bs (ps ++ rest) limit
+    → IsSettledPairOf gens bs q → AreAwaited gens cap bs (ps ++ q ∷ rest) limit → AreAwaited gens cap bs (ps ++ rest) limit
 gone_through gens cap bs ps rest q limit gone h i j r k one =
     let a = h i j r k one in
     record {
@@ -250,16 +230,13 @@ gone_through gens cap bs ps rest q limit gone h i j r k one =
       ];
     }
   where
-    same : q ≡ pair_of gens.shift bs i j → IsSettledPair gens bs i j ⊎ Contains (ps ++ rest) (pair_of gens.shift bs i j)
-    same e = elim gone [
-      | inl s ↦ inl (subst (λ x. IsSettledPair gens bs x j) (ap (λ (w : Pair). w.first) e) (subst (λ x. IsSettledPair gens bs q.first x) (ap (λ (w : Pair). w.second) e) s))
-      | inr c ↦ inr (Contains-append_left ps rest (pair_of gens.shift bs i j) (subst (Contains ps) e c))
-    ]
+    same : q ≡ pair_of gens.shift bs i j → IsSettledPair gens bs i j
+    same e = subst (λ x. IsSettledPair gens bs x j) (ap (λ (w : Pair). w.first) e) (subst (λ x. IsSettledPair gens bs q.first x) (ap (λ (w : Pair). w.second) e) gone)
 
     first : Contains (q ∷ rest) (pair_of gens.shift bs i j) → IsSettledPair gens bs i j ⊎ Contains (ps ++ rest) (pair_of gens.shift bs i j)
     first (k, l, e) = place k l e
       where
         place : (k : ℕ) → k < length (q ∷ rest) → get_or (q ∷ rest) k (pair_of gens.shift bs i j) ≡ pair_of gens.shift bs i j
             → IsSettledPair gens bs i j ⊎ Contains (ps ++ rest) (pair_of gens.shift bs i j)
-        place zero l e = same e
+        place zero l e = inl (same e)
         place (suc k) l e = inr (Contains-append_right ps rest (pair_of gens.shift bs i j) (k, omega arith, e))

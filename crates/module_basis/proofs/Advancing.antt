@@ -1,9 +1,11 @@
 -- From one degree to the next.
-use Rattle.std.proofs.Common.{◌≡◌, ◌⊎◌, inl, inr, ℕ, ◌+◌, ◌<◌, ◌≤◌, suc, List, [], ◌∷◌, ◌++◌, length, get_or, drop, sym, ap, ◌∙◌, subst, arith, append-nil, drop-cons}
+use Rattle.std.proofs.Common.{◌≡◌, ◌≢◌, ◌⊎◌, inl, inr, ℕ, ◌+◌, ◌<◌, ◌≤◌, suc, List, [], ◌∷◌, ◌++◌, length, get_or, take, drop, sym, ap, ◌∙◌, subst, arith, append-nil, drop-cons}
 use Rattle.std.specs.List.{All, Contains}
 use Rattle.std.proofs.lemmas.Bool.{cases_lt}
 use Rattle.std.proofs.lemmas.List.{get_or_default, get_or-map}
-use Rattle.std.proofs.lemmas.List.Elements.{All-append, All-weaker, All-contains, Contains-get_or}
+use Rattle.std.proofs.lemmas.List.Elements.{All-append, All-push, All-take, All-weaker, All-contains, Contains-get_or}
+use Rattle.std.proofs.Math.Nat.{eq-or-lt_of_le}
+use Rattle.std.proofs.Math.Seq.{take-suc}
 use Rattle.prime_field.specs.Primes.{IsPrime}
 use Rattle.polys.specs.declared.term.Term.{Term}
 use Rattle.polys.specs.Poly.{Polynomial, terms_of}
@@ -18,10 +20,10 @@ use Rattle.module_division.specs.Vectors.{member}
 use Rattle.module_basis.specs.declared.gens.Gens.{Gens}
 use Rattle.module_basis.specs.declared.growing.Growing.{Growing}
 use Rattle.module_basis.specs.declared.pairs.Pair.{Pair}
-use Rattle.module_basis.specs.Growing.{pair_degree, pair_of, AreOfOneComponent, IsPair, AreAwaited, IsGrowing, MayGrow, GainsVector}
+use Rattle.module_basis.specs.Growing.{pair_degree, pair_of, AreOfOneComponent, IsPair, IsParted, IsSettledPairOf, AreAwaited, IsGrowing, MayGrow, GainsVector}
 use Rattle.module_division.proofs.Lists.{count_lists, lists_append}
-use Rattle.module_basis.proofs.Growth.{pair_more}
-use Rattle.module_basis.proofs.Joining.{all_generators}
+use Rattle.module_basis.proofs.Growth.{pair_more, settled_more}
+use Rattle.module_basis.proofs.Joining.{all_generators, awaited_pairs}
 use Rattle.module_basis.proofs.Adding.{gone_through}
 
 pub pair_at : (ps : List Pair) (i : ℕ) (q : Pair) → i < length ps → q ≡ get_or ps i q → drop i ps ≡ q ∷ drop (i + 1) ps
@@ -108,16 +110,60 @@ ready_next gens e cap mid new prime growing q larger late awaited members = reco
         ] in
         subst (λ x. IsSettled gens.prime gens.variables gens.shift bs x (get_or bs j d)) (sym mi) (subst (λ y. IsSettled gens.prime gens.variables gens.shift bs (member bs i) y) (sym mj) s)
 
--- one more pair was gone through
-pub gone_on : (gens : Gens) (e cap k : ℕ) (now new : Growing) (waiting : List Pair) (q : Pair) → k < length waiting → q ≡ get_or waiting k q → now.cap ≡ cap
-    → AreAwaited gens cap (terms_of now.basis.items) (now.pairs.items ++ drop k waiting) (length now.basis.items) → GainsVector gens e now new
-    → IsSettled gens.prime gens.variables gens.shift (terms_of new.basis.items) (member (terms_of new.basis.items) q.first) (member (terms_of new.basis.items) q.second) ⊎ Contains new.pairs.items q
-    → AreAwaited gens cap (terms_of new.basis.items) (new.pairs.items ++ drop (k + 1) waiting) (length new.basis.items)
-gone_on gens e cap k now new waiting q h eq c a g done =
-    gone_through gens cap (terms_of new.basis.items) new.pairs.items (drop (k + 1) waiting) q (length new.basis.items) done
-    (subst (λ ps. AreAwaited gens cap (terms_of new.basis.items) (new.pairs.items ++ ps) (length new.basis.items)) (pair_at waiting k q h eq)
-    (subst (λ x. AreAwaited gens x (terms_of new.basis.items) (new.pairs.items ++ drop k waiting) (length new.basis.items)) c
-    (g.awaited (drop k waiting) (subst (λ x. AreAwaited gens x (terms_of now.basis.items) (now.pairs.items ++ drop k waiting) (length now.basis.items)) (sym c) a))))
+-- the pairs of degree e are taken out, and the others wait
+pub record IsBegun (gens : Gens) (e cap : ℕ) (bs : List (List Term)) (due later : List Pair) (count : ℕ) : Type 0 where
+  pub late : All (λ q. e < q.degree) later
+  pub later_pairs : All (IsPair gens.shift bs) later
+  pub pairs : All (IsPair gens.shift bs) due
+  pub awaited : AreAwaited gens cap bs (later ++ due) count
+
+pub begins : (gens : Gens) (e : ℕ) (old : Growing) (due later : List Pair) → MayGrow gens e old → IsParted e old.pairs.items due later
+    → IsBegun gens e old.cap (terms_of old.basis.items) due later (length old.basis.items)
+begins gens e old due later r parted = record {
+  late = λ k d h. (let x = parted.others k d h in let y = All-contains (λ q. e ≤ q.degree) old.pairs.items (get_or later k d) r.late x.1 in above y x.0);
+  later_pairs = λ k d h. All-contains (IsPair gens.shift (terms_of old.basis.items)) old.pairs.items (get_or later k d) r.growing.pairs (parted.others k d h).1;
+  pairs = λ k d h. All-contains (IsPair gens.shift (terms_of old.basis.items)) old.pairs.items (get_or due k d) r.growing.pairs (parted.of_degree k d h).1;
+  awaited = λ i j h l one. awaited_pairs gens old.cap (terms_of old.basis.items) old.pairs.items (later ++ due) i j parted.whole (r.awaited i j h l one);
+}
+  where
+    above : {d : ℕ} → e ≤ d → d ≢ e → e < d
+    above {d} h n = go (eq-or-lt_of_le h)
+      where
+        go : (e ≡ d) ⊎ (e < d) → e < d
+        go (inl q) = absurd (n (sym q))
+        go (inr l) = l
+
+-- one more pair is settled
+pub gone_on : (gens : Gens) (e cap k : ℕ) (now new : Growing) (due : List Pair) (q : Pair) → k < length due → q ≡ get_or due k q → now.cap ≡ cap
+    → AreAwaited gens cap (terms_of now.basis.items) (now.pairs.items ++ drop k due) (length now.basis.items) → GainsVector gens e now new
+    → IsSettledPairOf gens (terms_of new.basis.items) q
+    → AreAwaited gens cap (terms_of new.basis.items) (new.pairs.items ++ drop (k + 1) due) (length new.basis.items)
+gone_on gens e cap k now new due q h eq c a g done =
+    gone_through gens cap (terms_of new.basis.items) new.pairs.items (drop (k + 1) due) q (length new.basis.items) done
+    (subst (λ ps. AreAwaited gens cap (terms_of new.basis.items) (new.pairs.items ++ ps) (length new.basis.items)) (pair_at due k q h eq)
+    (subst (λ x. AreAwaited gens x (terms_of new.basis.items) (new.pairs.items ++ drop k due) (length new.basis.items)) c
+    (g.awaited (drop k due) (subst (λ x. AreAwaited gens x (terms_of now.basis.items) (now.pairs.items ++ drop k due) (length now.basis.items)) (sym c) a))))
+
+-- and so are those before it
+pub one_settled : (gens : Gens) (e k : ℕ) (now new : Growing) (due : List Pair) (q : Pair) → k < length due → q ≡ get_or due k q → GainsVector gens e now new
+    → All (IsPair gens.shift (terms_of now.basis.items)) due → All (IsSettledPairOf gens (terms_of now.basis.items)) (take k due)
+    → IsSettledPairOf gens (terms_of new.basis.items) q → All (IsSettledPairOf gens (terms_of new.basis.items)) (take (k + 1) due)
+one_settled gens e k now new due q h eq g pairs before here =
+    let bs = terms_of now.basis.items in
+    let cs = terms_of new.basis.items in
+    let more : cs ≡ bs ++ terms_of g.more = ap terms_of g.vectors ∙ lists_append now.basis.items g.more in
+    let n : k + 1 ≡ suc k = omega arith in
+    subst (All (IsSettledPairOf gens cs)) (sym (ap (λ j. take j due) n ∙ take-suc due k q h ∙ ap (λ x. take k due ++ x ∷ []) (sym eq)))
+    (All-push (IsSettledPairOf gens cs) (take k due) q
+    (λ i d l. still i d (take k due) more (All-take (IsPair gens.shift bs) k due pairs i d l) (before i d l)) here)
+  where
+    still : (i : ℕ) (d : Pair) (ps : List Pair) → terms_of new.basis.items ≡ terms_of now.basis.items ++ terms_of g.more
+        → IsPair gens.shift (terms_of now.basis.items) (get_or ps i d) → IsSettledPairOf gens (terms_of now.basis.items) (get_or ps i d)
+        → IsSettledPairOf gens (terms_of new.basis.items) (get_or ps i d)
+    still i d ps more pair s =
+        let r = pair.rising in
+        let l = pair.inside in
+        settled_more gens (terms_of now.basis.items) (terms_of new.basis.items) (get_or ps i d).first (get_or ps i d).second (omega arith) l (terms_of g.more) more s
 
 pub pairs_still : (gens : Gens) (e : ℕ) (now new : Growing) (waiting : List Pair) → GainsVector gens e now new → All (IsPair gens.shift (terms_of now.basis.items)) waiting
     → All (IsPair gens.shift (terms_of new.basis.items)) waiting

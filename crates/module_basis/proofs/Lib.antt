@@ -1,6 +1,8 @@
+mod Parting
 mod Pairing
 mod Growth
 mod Joining
+mod Chaining
 mod Adding
 mod Advancing
 mod Whole

@@ -15,7 +15,7 @@ use Rattle.graded_modules.proofs.Settled.{settled_law}
 use Rattle.module_division.specs.Vectors.{member}
 use Rattle.module_basis.specs.declared.gens.Gens.{Gens}
 use Rattle.module_basis.specs.declared.pairs.Pair.{Pair}
-use Rattle.module_basis.specs.Growing.{IsPair, IsSettledPair, IsGrown}
+use Rattle.module_basis.specs.Growing.{IsSettledPair, IsSettledPairOf, IsGrown}
 use Rattle.module_division.proofs.Lists.{count_lists, member_is}
 
 pub total_max : (a b : List ℕ) → total_degree (pointwise max a b) ≤ total_degree a + total_degree b
@@ -58,46 +58,12 @@ module _ (p n shift : ℕ) (prime : IsPrime p) (gs bs : List (List Term)) (e : �
           settled_law.swapped p n shift bs (member bs j) (member bs i) b.vectors (paired j i hj hi (sym c))
           (b.settled j i [] h hi (sym c) (subst (λ m. degree_at shift m < e) (lcm_comm (lead_mono (member bs i)) (lead_mono (member bs j)) c) l))
 
+  -- the chain criterion: the lead of another member divides the least common multiple, and both pairs with it are settled
   pub chained : (i j k : ℕ) → i < length bs → j < length bs → k < length bs → (lead_mono (member bs i)).component ≡ (lead_mono (member bs j)).component
-      → e ≡ degree_at shift (lead_lcm (member bs i) (member bs j)) → Divides (lead_mono (member bs k)) (lead_lcm (member bs i) (member bs j))
-      → degree_at shift (lead_lcm (member bs i) (member bs k)) < e → degree_at shift (lead_lcm (member bs k) (member bs j)) < e
-      → IsSettled p n shift bs (member bs i) (member bs j)
-  chained i j k hi hj hk c q d left right =
-      let ck : (lead_mono (member bs i)).component ≡ (lead_mono (member bs k)).component = sym d.same in
-      settled_law.chain p n shift bs (member bs i) (member bs j) (member bs k) b.vectors (paired i j hi hj c) (paired i k hi hk ck) d
-      (settled_both i k hi hk (λ e'. not_self i j k e' q right) ck left)
-      (settled_both k j hk hj (λ e'. not_other i j k e' q left) (d.same ∙ c) right)
-    where
-      not_self : (i j k : ℕ) → i ≡ k → e ≡ degree_at shift (lead_lcm (member bs i) (member bs j)) → degree_at shift (lead_lcm (member bs k) (member bs j)) < e → ⊥
-      not_self i j k s q l = let x = ap (λ m. degree_at shift (lead_lcm (member bs m) (member bs j))) s in absurd (omega arith)
-
-      not_other : (i j k : ℕ) → k ≡ j → e ≡ degree_at shift (lead_lcm (member bs i) (member bs j)) → degree_at shift (lead_lcm (member bs i) (member bs k)) < e → ⊥
-      not_other i j k s q l = let x = ap (λ m. degree_at shift (lead_lcm (member bs i) (member bs m))) s in absurd (omega arith)
-
--- the link that the program found
-pub linked : (gens : Gens) (fs : List Polynomial) (q : Pair) (k : ℕ) (f g h : Polynomial) (a b c m : Monomial) → IsPrime gens.prime
-    → IsGrown gens q.degree (terms_of fs) → IsPair gens.shift (terms_of fs) q → k < length fs
-    → f ≡ get_or fs q.first f → g ≡ get_or fs q.second g → h ≡ get_or fs k h → a ≡ lead_mono f.terms → b ≡ lead_mono g.terms → c ≡ lead_mono h.terms
-    → m ≡ common_multiple a b → Divides c m × (degree_at gens.shift (common_multiple a c) < q.degree) × (degree_at gens.shift (common_multiple c b) < q.degree)
-    → IsSettledPair gens (terms_of fs) q.first q.second
-linked gens fs q k f g h a b c m prime grown pair hk ef eg eh ea eb ec em found =
-    let bs = terms_of fs in
-    let n = count_lists fs in
-    let inside = pair.inside in
-    let rising = pair.rising in
-    let hj : q.second < length fs = omega arith in
-    let hi : q.first < length fs = omega arith in
-    let la : a ≡ lead_mono (member bs q.first) = ea ∙ ap lead_mono (sym (member_is fs q.first f hi ef)) in
-    let lb : b ≡ lead_mono (member bs q.second) = eb ∙ ap lead_mono (sym (member_is fs q.second g hj eg)) in
-    let lc : c ≡ lead_mono (member bs k) = ec ∙ ap lead_mono (sym (member_is fs k h hk eh)) in
-    let lm : m ≡ lead_lcm (member bs q.first) (member bs q.second) = em ∙ (λ i. common_multiple (la i) (lb i)) in
-    chained gens.prime gens.variables gens.shift prime (terms_of gens.vectors) bs q.degree grown.below q.first q.second k (omega arith) inside (omega arith) pair.one_component pair.degree
-    (coe_two (λ x y. Divides x y) c (lead_mono (member bs k)) m (lead_lcm (member bs q.first) (member bs q.second)) lc lm found.0)
-    (coe_two (λ x y. degree_at gens.shift (common_multiple x y) < q.degree) a (lead_mono (member bs q.first)) c (lead_mono (member bs k)) la lc found.1)
-    (coe_two (λ x y. degree_at gens.shift (common_multiple x y) < q.degree) c (lead_mono (member bs k)) b (lead_mono (member bs q.second)) lc lb found.2)
-  where
-    coe_two : (P : Monomial → Monomial → Type 0) (x x' y y' : Monomial) → x ≡ x' → y ≡ y' → P x y → P x' y'
-    coe_two P x x' y y' p q h = subst (P x') q (subst (λ z. P z y) p h)
+      → Divides (lead_mono (member bs k)) (lead_lcm (member bs i) (member bs j))
+      → IsSettled p n shift bs (member bs i) (member bs k) → IsSettled p n shift bs (member bs k) (member bs j) → IsSettled p n shift bs (member bs i) (member bs j)
+  chained i j k hi hj hk c d left right =
+      settled_law.chain p n shift bs (member bs i) (member bs j) (member bs k) b.vectors (paired i j hi hj c) (paired i k hi hk (sym d.same)) d left right
 
 -- the leads of a grown basis have low degrees
 pub low_lead : (gens : Gens) (e : ℕ) (fs : List Polynomial) (i : ℕ) (f : Polynomial) → IsGrown gens e (terms_of fs) → i < length fs → f ≡ get_or fs i f

@@ -1,5 +1,5 @@
 -- A basis that grows degree by degree (Buchberger's algorithm; Greuel and Pfister, section on standard bases of modules).
-use Rattle.std.specs.Prelude.{◌≡◌, ◌⊎◌, ℕ, ◌<◌, ◌≤◌, List, ◌++◌, length, All, Contains}
+use Rattle.std.specs.Prelude.{◌≡◌, ◌≢◌, ◌⊎◌, ℕ, ◌<◌, ◌≤◌, List, ◌++◌, length, All, Contains}
 use Rattle.std.specs.declared.cmp.Ordering.TheVariants.{Less}
 use Rattle.monomials.specs.Mono.{Monomial, cmp_dp}
 use Rattle.polys.specs.declared.term.Term.{Term}
@@ -37,6 +37,16 @@ pub record IsPair (shift : ℕ) (bs : List (List Term)) (q : Pair) : Type 0 wher
 -- the S-vector of two members is a sum of multiples below
 abbrev pub IsSettledPair : Gens → List (List Term) → ℕ → ℕ → Type 0
 IsSettledPair gens bs i j = IsSettled gens.prime gens.variables gens.shift bs (member bs i) (member bs j)
+
+-- so it is for the two members of a pair
+abbrev pub IsSettledPairOf : Gens → List (List Term) → Pair → Type 0
+IsSettledPairOf gens bs q = IsSettledPair gens bs q.first q.second
+
+-- the pairs of degree e, and the others
+pub record IsParted (e : ℕ) (ps due later : List Pair) : Type 0 where
+  pub of_degree : All (λ q. (q.degree ≡ e) × Contains ps q) due
+  pub others : All (λ q. (q.degree ≢ e) × Contains ps q) later
+  pub whole : (q : Pair) → Contains ps q → Contains (later ++ due) q
 
 -- two members are settled, or their pair is in the list; its degree is at most the cap
 pub record IsAwaited (gens : Gens) (cap : ℕ) (bs : List (List Term)) (ps : List Pair) (i j : ℕ) : Type 0 where

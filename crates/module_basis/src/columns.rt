@@ -1,6 +1,5 @@
 // Whether division by rows pays in a degree.
 use crate::Gens;
-use crate::pairs::Pair;
 use lists::NoMemory;
 use module_division::Columns;
 use polys::Poly;
@@ -12,19 +11,15 @@ const LONG: usize = 24;
 // So are those in fewer variables, where what no lead divides is little in a degree, so that vectors stay short.
 const FEW_VARIABLES: u32 = 3;
 
-// The columns of the degree, where division by rows pays, and none otherwise. It pays where there are no more columns than half
+// The columns of the degree, which has so many pairs, where division by rows pays, and none otherwise. It pays where there are no more columns than half
 // the terms that merges move: about the square of the terms of a vector for each pair.
 pub(crate) fn columns_for(
     alloc: Global,
     gens: &Gens,
     basis: &[Poly],
-    waiting: &[Pair],
+    pairs: usize,
     e: u32,
 ) -> Result<Columns, NoMemory> {
-    let pairs = waiting
-        .iter()
-        .filter(|pair| pair.degree == u64::from(e))
-        .count();
     let length = average_length(basis);
     if pairs == 0 || length < LONG || gens.variables < FEW_VARIABLES {
         return Ok(Columns::none(alloc));

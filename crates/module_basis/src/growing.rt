@@ -7,17 +7,16 @@ ghost use Rattle.module_basis.specs.declared.gens.BasisStop.TheVariants.{Deep};
 ghost use Rattle.module_basis.specs.Gens.{AreGens, IsHomogeneousOver};
 ghost use Rattle.polys.specs.Poly.{terms_of};
 ghost use Rattle.module_division.specs.Vectors.{member};
-ghost use Rattle.module_basis.specs.Growing.{AreOfOneComponent, IsPair, IsSettledPair, IsAwaited, AreAwaited, IsGrowing, MayGrow, GainsPairs, GainsVector, IsMemberAt, IsNewAt, IsBelowAll, HasHighLeads};
+ghost use Rattle.module_basis.specs.Growing.{AreOfOneComponent, IsPair, IsSettledPair, IsSettledPairOf, IsAwaited, AreAwaited, IsGrowing, MayGrow, GainsPairs, GainsVector, IsMemberAt, IsNewAt, IsBelowAll, HasHighLeads};
 
 use crate::columns::columns_for;
-use crate::pairs::{Pair, are_coprime, is_chained, s_vector};
+use crate::pairs::{Pair, Parted, are_coprime, is_chained, part_by_degree, s_vector};
 use crate::{BasisStop, Cap, Gens};
 use lists::NoMemory;
 use module_division::{Columns, degree_at, lead_mono};
 use monomials::Mono;
 use polys::{Poly, Term};
 use std::alloc::Global;
-use std::mem;
 
 // Monic vectors of which no lead divides another one, and the pairs of them that wait.
 #[derive(Drop)]
@@ -116,51 +115,28 @@ impl Growing {
     {
         let _prime = gens.prime.get();
         let alloc = *self.pairs.allocator();
-        let waiting = mem::replace(&mut self.pairs, Vec::new(alloc));
-        let mut columns = columns_for(alloc, gens, &self.basis, &waiting, e)?;
-        for k in 0..waiting.len() {
-            self.go_through(gens, &mut columns, waiting[k], e)?;
+        let Parted { due, later } = part_by_degree(alloc, &self.pairs, e)?;
+        self.pairs = later;
+        let mut columns = columns_for(alloc, gens, &self.basis, due.len(), e)?;
+        for k in 0..due.len() {
+            self.settle(gens, &mut columns, &due[..k], due[k], e)?;
         }
         Ok(())
     }
 
-    // Settles the pair, if it has degree e, or lets it go on waiting.
-    fn go_through(
-        &mut self,
-        gens: &Gens,
-        columns: &mut Columns,
-        pair: Pair,
-        e: u32,
-    ) -> Result<(), BasisStop>
-        requires gens { AreGens gens.now }
-        requires low { e ≤ self.old.cap }
-        requires growing { IsGrowing gens.now e self.old }
-        requires pair { IsPair gens.now.shift (terms_of self.old.basis.items) pair }
-        requires degree { e ≤ pair.degree }
-        ensures growing { OnOk result (IsGrowing gens.now e self.new) }
-        ensures gains { OnOk result (GainsVector gens.now e self.old self.new) }
-        ensures done { OnOk result (IsSettledPair gens.now (terms_of self.new.basis.items) pair.first pair.second ⊎ Contains self.new.pairs.items pair) }
-        ensures deep { IfErr result (λ stop. stop ≡ Deep → HasHighLeads gens.now self.old.cap) }
-    {
-        if pair.degree > u64::from(e) {
-            self.wait(pair)?;
-            return Ok(());
-        }
-        self.settle(gens, columns, pair, e)?;
-        Ok(())
-    }
-
-    // Settles the pair of degree e, unless a criterion says that it is.
+    // Settles the pair of degree e, unless a criterion says that it is. Those before it are done.
     fn settle(
         &mut self,
         gens: &Gens,
         columns: &mut Columns,
+        done: &[Pair],
         pair: Pair,
         e: u32,
     ) -> Result<(), BasisStop>
         requires gens { AreGens gens.now }
         requires low { e ≤ self.old.cap }
         requires growing { IsGrowing gens.now e self.old }
+        requires done { All (IsSettledPairOf gens.now (terms_of self.old.basis.items)) done.now }
         requires pair { IsPair gens.now.shift (terms_of self.old.basis.items) pair }
         requires degree { pair.degree ≡ e }
         ensures growing { OnOk result (IsGrowing gens.now e self.new) }
@@ -170,7 +146,7 @@ impl Growing {
     {
         let _prime = gens.prime.get();
         let _cap = self.cap.get();
-        if is_chained(gens, &self.basis, pair) {
+        if is_chained(gens, &self.basis, done, pair) {
             return Ok(());
         }
         let s = s_vector(gens, &self.basis[pair.first], &self.basis[pair.second])?;

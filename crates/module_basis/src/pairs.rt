@@ -1,14 +1,15 @@
 // S-vectors of pairs, and the criteria that settle a pair without a division.
-ghost use Rattle.std.specs.Prelude.{◌≡◌, ◌↔◌, ◌+◌, ◌<◌, ◌≤◌, ℕ, [], ◌∷◌, length, All, IsTrue, IfOk};
+ghost use Rattle.std.specs.Prelude.{◌≡◌, ◌↔◌, ◌+◌, ◌<◌, ◌≤◌, ℕ, length, All, IsTrue, IfOk, slice_index_or};
 ghost use Rattle.monomials.specs.declared.mono.TheConstants.{MAX_DEGREE};
-ghost use Rattle.monomials.specs.Mono.{total_degree, common_multiple, Divides, IsMono};
+ghost use Rattle.monomials.specs.Mono.{total_degree, Divides, IsMono};
 ghost use Rattle.polys.specs.Terms.{EachMono, IsMonic};
 ghost use Rattle.polys.specs.Poly.{IsVector, IsPlain, terms_of};
 ghost use Rattle.graded_modules.specs.Vector.{degree_at, lead_mono};
 ghost use Rattle.graded_modules.specs.SVector.{raised, lead_lcm, s_vector};
 ghost use Rattle.module_basis.specs.Gens.{AreGens};
 ghost use Rattle.module_division.specs.Division.{IsDivisor};
-ghost use Rattle.module_basis.specs.Growing.{IsPair, IsSettledPair, IsGrown};
+ghost use Rattle.module_division.specs.Vectors.{member};
+ghost use Rattle.module_basis.specs.Growing.{AreOfOneComponent, IsPair, IsParted, IsSettledPair, IsSettledPairOf, IsGrown};
 
 use crate::Gens;
 use lists::NoMemory;
@@ -16,6 +17,7 @@ use module_division::{degree_at, lead_mono};
 use monomials::Mono;
 use polys::{Poly, Term};
 use prime_field::Prime;
+use std::alloc::Global;
 
 // Two members of a list by their numbers, the smaller one first, and the degree of the least common multiple of their
 // leads.
@@ -65,36 +67,98 @@ pub(crate) fn are_coprime(f: &Poly, g: &Poly, m: &Mono) -> bool
     m.degree() == lead_mono(f).degree() + lead_mono(g).degree() && f.is_plain() && g.is_plain()
 }
 
-// Whether the lead of some vector divides the least common multiple of those of the pair, and makes with both of them
-// least common multiples of degrees below that of the pair.
-pub(crate) fn is_chained(gens: &Gens, basis: &[Poly], pair: Pair) -> bool
+// The pairs of a degree, and the others.
+#[derive(Drop)]
+pub(crate) struct Parted {
+    pub(crate) due: Vec<Pair>,
+    pub(crate) later: Vec<Pair>,
+}
+
+// The pairs, parted by whether they have degree e.
+pub(crate) fn part_by_degree(alloc: Global, pairs: &[Pair], e: u32) -> Result<Parted, NoMemory>
+    ensures { IfOk result (λ parts. IsParted e pairs.now parts.due.items parts.later.items) }
+{
+    let mut due = Vec::new(alloc);
+    let mut later = Vec::new(alloc);
+    for k in 0..pairs.len() {
+        let pair = pairs[k];
+        if pair.degree == u64::from(e) {
+            due.push(pair)?;
+        } else {
+            later.push(pair)?;
+        }
+    }
+    Ok(Parted { due, later })
+}
+
+// Whether the chain criterion settles the pair: whether the lead of another vector divides the least common multiple of those
+// of the pair, and its pairs with both of them are settled: they have lower degrees, or are among those that are done.
+pub(crate) fn is_chained(gens: &Gens, basis: &[Poly], done: &[Pair], pair: Pair) -> bool
     requires gens { AreGens gens.now }
     requires grown { IsGrown gens.now pair.degree (terms_of basis.now) }
     requires low { pair.degree ≤ 1000 }
     requires pair { IsPair gens.now.shift (terms_of basis.now) pair }
+    requires done { All (IsSettledPairOf gens.now (terms_of basis.now)) done.now }
     ensures { IsTrue result → IsSettledPair gens.now (terms_of basis.now) pair.first pair.second }
 {
-    let _prime = gens.prime.get();
-    let a = lead_mono(&basis[pair.first]);
-    let b = lead_mono(&basis[pair.second]);
-    let m = Mono::lcm(&a, &b);
+    let m = Mono::lcm(&lead_mono(&basis[pair.first]), &lead_mono(&basis[pair.second]));
     for k in 0..basis.len() {
-        if is_link(gens.shift, &a, &b, &lead_mono(&basis[k]), &m, pair.degree) {
+        if is_link(gens, basis, done, pair, &m, k) {
             return true;
         }
     }
     false
 }
 
-// Whether c divides the least common multiple m of a and b, of degree e, and those with a and with b have lower degrees.
-fn is_link(shift: u32, a: &Mono, b: &Mono, c: &Mono, m: &Mono, e: u64) -> bool
-    requires one_component { a.now.component ≡ b.now.component }
-    requires common { m.now ≡ common_multiple a.now b.now }
-    requires seven { (length a.now.exponents ≡ 7) × (length b.now.exponents ≡ 7) × (length c.now.exponents ≡ 7) }
-    requires room { (total_degree a.now.exponents ≤ 1000) × (total_degree b.now.exponents ≤ 1000) × (total_degree c.now.exponents ≤ 1000) }
-    ensures { IsTrue result → Divides c.now m.now × (degree_at shift (common_multiple a.now c.now) < e) × (degree_at shift (common_multiple c.now b.now) < e) }
+// Whether the lead of the vector with this number divides the least common multiple m of those of the pair, and its pairs with
+// both of them are settled.
+fn is_link(gens: &Gens, basis: &[Poly], done: &[Pair], pair: Pair, m: &Mono, k: usize) -> bool
+    requires gens { AreGens gens.now }
+    requires grown { IsGrown gens.now pair.degree (terms_of basis.now) }
+    requires low { pair.degree ≤ 1000 }
+    requires pair { IsPair gens.now.shift (terms_of basis.now) pair }
+    requires done { All (IsSettledPairOf gens.now (terms_of basis.now)) done.now }
+    requires common { m.now ≡ lead_lcm (member (terms_of basis.now) pair.first) (member (terms_of basis.now) pair.second) }
+    requires inside { k < length basis.now }
+    ensures { IsTrue result → IsSettledPair gens.now (terms_of basis.now) pair.first pair.second }
 {
-    Mono::divides(c, m)
-        && degree_at(shift, &Mono::lcm(a, c)) < e
-        && degree_at(shift, &Mono::lcm(c, b)) < e
+    let _prime = gens.prime.get();
+    if !Mono::divides(&lead_mono(&basis[k]), m) {
+        return false;
+    }
+    if !is_settled(gens, basis, done, pair.degree, pair.first, k) {
+        return false;
+    }
+    is_settled(gens, basis, done, pair.degree, k, pair.second)
+}
+
+// Whether two vectors with leads of one component have a least common multiple of a degree below e, or are a pair that is done.
+// A vector and itself are not.
+fn is_settled(gens: &Gens, basis: &[Poly], done: &[Pair], e: u64, i: usize, j: usize) -> bool
+    requires gens { AreGens gens.now }
+    requires grown { IsGrown gens.now e (terms_of basis.now) }
+    requires low { e ≤ 1000 }
+    requires inside { (i < length basis.now) × (j < length basis.now) }
+    requires one_component { AreOfOneComponent (terms_of basis.now) i j }
+    requires done { All (IsSettledPairOf gens.now (terms_of basis.now)) done.now }
+    ensures { IsTrue result → IsSettledPair gens.now (terms_of basis.now) i j }
+{
+    let _prime = gens.prime.get();
+    if i == j {
+        return false;
+    }
+    let m = Mono::lcm(&lead_mono(&basis[i]), &lead_mono(&basis[j]));
+    degree_at(gens.shift, &m) < e || is_done(done, i.min(j), i.max(j))
+}
+
+// Whether the pair of the two numbers is in the list.
+fn is_done(done: &[Pair], first: usize, second: usize) -> bool
+    ensures { IsTrue result → (k : _) × (k < length done.now) × ((d : _) → ((slice_index_or done.now k d).first ≡ first) × ((slice_index_or done.now k d).second ≡ second)) }
+{
+    for k in 0..done.len() {
+        if done[k].first == first && done[k].second == second {
+            return true;
+        }
+    }
+    false
 }
