@@ -1,18 +1,14 @@
 -- Polynomials of the tests.
-use Rattle.std.proofs.Common.{◌≡◌, ⊎_elim, ℕ, ◌<◌, ◌≤◌, zero, suc, List, [], ◌∷◌, length, get_or, take, refl, ap, subst, ◌∙◌, arith}
+use Rattle.std.proofs.Common.{◌≡◌, ⊎_elim, ℕ, ◌<◌, ◌≤◌, length, get_or, take, refl, ap, subst, ◌∙◌, arith}
 use Rattle.std.proofs.lemmas.Bool.{cases_lt}
 use Rattle.std.proofs.lemmas.List.{take_all}
 use Rattle.monomials.specs.Mono.{Monomial, total_degree}
 use Rattle.polys.specs.Poly.{Polynomial}
-use Rattle.polys.specs.Terms.{EachMono, IsCanonical, OnlyFirst, IsAffine}
+use Rattle.polys.specs.Terms.{EachMono, IsCanonical, IsAffine}
 use Rattle.polys.proofs.Degrees.{AtMost, degree_le}
 use Rattle.polys.proofs.Each.{every_more}
+use Rattle.module_basis.proofs.Tested.{only_first}
 use Rattle.jacobian_pick.specs.Lists.{IsUpTo}
-
-only_first : (n : ℕ) (xs : List ℕ) → ((k : ℕ) → n ≤ k → k < length xs → get_or xs k 0 ≡ 0) → OnlyFirst n xs
-only_first n [] h = tt
-only_first zero (x ∷ xs) h = (h 0 (omega arith) (omega arith), only_first zero xs (λ k a b. h (suc k) (omega arith) (omega arith)))
-only_first (suc n) (x ∷ xs) h = only_first n xs (λ k a b. h (suc k) (omega arith) (omega arith))
 
 pub affine : (n : ℕ) (m : Monomial) → length m.exponents ≡ 7 → get_or m.exponents 6 0 ≡ 0 → m.component ≡ 0 → ((k : ℕ) → n ≤ k → k < 6 → get_or m.exponents k 0 ≡ 0) → IsAffine n m
 affine n m l z c h = record {

@@ -3,7 +3,7 @@ use Rattle.std.proofs.Common.{◌≡◌, ◌≢◌, ◌⊎◌, inl, inr, ℕ, �
 use Rattle.std.specs.List.{All, Contains}
 use Rattle.std.proofs.Math.Nat.{eq-or-lt_of_le}
 use Rattle.std.proofs.Math.Seq.{get_or-append_seam}
-use Rattle.std.proofs.lemmas.List.Elements.{All-push, All-nil, All-cons, All-append, All-weaker, Contains-append_left, Contains-append_right, Contains-append_cases, Contains-get_or}
+use Rattle.std.proofs.lemmas.List.Elements.{All-push, All-nil, All-append, All-weaker, Contains-append_left, Contains-append_right, Contains-append_cases, Contains-get_or}
 use Rattle.prime_field.specs.Primes.{IsPrime}
 use Rattle.polys.specs.declared.term.Term.{Term}
 use Rattle.polys.specs.Poly.{Polynomial, IsVector, terms_of}

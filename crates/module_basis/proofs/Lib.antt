@@ -7,4 +7,5 @@ mod Adding
 mod Advancing
 mod Whole
 mod Ideals
-mod Tested
+-- for the tests and the crates above: monomials in the first variables
+pub mod Tested

@@ -1,7 +1,7 @@
 -- Pairs of members of a basis.
 use Rattle.std.proofs.Common.{◌≡◌, ◌≢◌, ◌⊎◌, inl, inr, ℕ, ◌+◌, ◌-◌, ◌<◌, ◌≤◌, zero, suc, List, [], ◌∷◌, max, length, get_or, refl, sym, ap, ◌∙◌, subst, arith}
 use Rattle.prime_field.specs.Primes.{IsPrime}
-use Rattle.monomials.specs.Mono.{Monomial, IsMono, Divides, pointwise, times, total_degree, common_multiple}
+use Rattle.monomials.specs.Mono.{Monomial, IsMono, Divides, pointwise, times, total_degree}
 use Rattle.monomials.proofs.Exponents.{length-pointwise}
 use Rattle.monomials.proofs.Order.{times_comm, times_cancel}
 use Rattle.polys.specs.declared.term.Term.{Term}
@@ -14,8 +14,7 @@ use Rattle.graded_modules.proofs.Cofactors.{times_cofactor, lcm_comm}
 use Rattle.graded_modules.proofs.Settled.{settled_law}
 use Rattle.module_division.specs.Vectors.{member}
 use Rattle.module_basis.specs.declared.gens.Gens.{Gens}
-use Rattle.module_basis.specs.declared.pairs.Pair.{Pair}
-use Rattle.module_basis.specs.Growing.{IsSettledPair, IsSettledPairOf, IsGrown}
+use Rattle.module_basis.specs.Growing.{IsGrown}
 use Rattle.module_division.proofs.Lists.{count_lists, member_is}
 
 pub total_max : (a b : List ℕ) → total_degree (pointwise max a b) ≤ total_degree a + total_degree b

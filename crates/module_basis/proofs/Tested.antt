@@ -1,5 +1,5 @@
--- Vectors in six variables.
-use Rattle.std.proofs.Common.{◌≡◌, ℕ, ◌≤◌, zero, suc, List, [], ◌∷◌, length, take, subst, arith}
+-- Monomials in the first variables, and vectors in six.
+use Rattle.std.proofs.Common.{◌≡◌, ℕ, ◌<◌, ◌≤◌, zero, suc, List, [], ◌∷◌, length, get_or, take, subst, arith}
 use Rattle.std.proofs.lemmas.List.{take_all}
 use Rattle.monomials.specs.Mono.{IsMono}
 use Rattle.polys.specs.declared.term.Term.{Term}
@@ -7,6 +7,12 @@ use Rattle.polys.specs.Poly.{IsVector}
 use Rattle.polys.specs.Terms.{EachMono, OnlyFirst}
 use Rattle.polys.proofs.Each.{every_more}
 use Rattle.graded_modules.specs.Vector.{IsGraded, IsGenerator, degree_at}
+
+-- where the exponents of the others are 0, a monomial is in the first variables
+pub only_first : (n : ℕ) (xs : List ℕ) → ((k : ℕ) → n ≤ k → k < length xs → get_or xs k 0 ≡ 0) → OnlyFirst n xs
+only_first n [] h = tt
+only_first zero (x ∷ xs) h = (h 0 (omega arith) (omega arith), only_first zero xs (λ k a b. h (suc k) (omega arith) (omega arith)))
+only_first (suc n) (x ∷ xs) h = only_first n xs (λ k a b. h (suc k) (omega arith) (omega arith))
 
 only_any : (n : ℕ) (a : List ℕ) → length a ≤ n → OnlyFirst n a
 only_any n [] h = tt

@@ -101,7 +101,10 @@ pub(crate) fn is_chained(gens: &Gens, basis: &[Poly], done: &[Pair], pair: Pair)
     requires done { All (IsSettledPairOf gens.now (terms_of basis.now)) done.now }
     ensures { IsTrue result → IsSettledPair gens.now (terms_of basis.now) pair.first pair.second }
 {
-    let m = Mono::lcm(&lead_mono(&basis[pair.first]), &lead_mono(&basis[pair.second]));
+    let m = Mono::lcm(
+        &lead_mono(&basis[pair.first]),
+        &lead_mono(&basis[pair.second]),
+    );
     for k in 0..basis.len() {
         if is_link(gens, basis, done, pair, &m, k) {
             return true;

@@ -1,12 +1,7 @@
-use Rattle.std.proofs.Common.{◌≡◌, ◌<◌, ◌≤◌, ℕ, zero, suc, List, [], ◌∷◌, length, get_or, take, ◌∙◌, arith}
+use Rattle.std.proofs.Common.{◌<◌, take, ◌∙◌, arith}
 use Rattle.std.proofs.lemmas.List.{get_or-take, length-take}
-use Rattle.polys.specs.Terms.{OnlyFirst}
+use Rattle.module_basis.proofs.Tested.{only_first}
 use Rattle.basis_timing.proofs.is_graded.Goals as goal
-
-only_first : (n : ℕ) (a : List ℕ) → ((k : ℕ) → n ≤ k → k < length a → get_or a k 0 ≡ 0) → OnlyFirst n a
-only_first n [] h = tt
-only_first zero (x ∷ a) h = (h 0 (omega arith) (omega arith), only_first zero a (λ k l m. h (suc k) (omega arith) (omega arith)))
-only_first (suc n) (x ∷ a) h = only_first n a (λ k l m. h (suc k) (omega arith) (omega arith))
 
 pub returns : goal.returns
 returns c = λ _.

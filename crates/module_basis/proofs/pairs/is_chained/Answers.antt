@@ -1,5 +1,4 @@
-use Rattle.std.proofs.Common.{◌<◌, ◌≡◌, ap, sym, ◌∙◌, length, arith}
-use Rattle.polys.specs.Poly.{terms_of}
+use Rattle.std.proofs.Common.{ap, sym, ◌∙◌, arith}
 use Rattle.monomials.specs.Mono.{common_multiple}
 use Rattle.graded_modules.specs.Vector.{lead_mono}
 use Rattle.module_division.proofs.Lists.{count_lists, member_is}
