@@ -34,8 +34,7 @@ pub mod ClosingLaws
 pub mod PointSetLaws
 -- a fit curve has a regular denominator and a finite dimension modulo it
 pub mod FitLaws
--- what is said of a curve depends on the ideal alone
-pub mod GeneratorLaws
 -- for this crate alone
+mod GeneratorLaws
 mod Equations
 mod ManyPoints

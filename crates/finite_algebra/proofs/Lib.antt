@@ -1,17 +1,21 @@
+-- for the crates above: sums, unit rows, products and classes of rows
 pub mod Totals
 pub mod Units
 pub mod Products
 pub mod Classes
-pub mod Counting
-pub mod Images
-pub mod QuotientLaws
-pub mod Weights
-pub mod Freeing
 pub mod Summing
-pub mod Powers
-pub mod Listing
-pub mod QuotientHolds
-pub mod BasisLaws
-pub mod Examples
+-- projections, multiplications and ideals
+pub mod Images
 pub mod Multiplication
 pub mod Generated
+-- the algebras of the tests
+pub mod Examples
+-- for this crate alone
+mod Counting
+mod QuotientLaws
+mod Weights
+mod Freeing
+mod Powers
+mod Listing
+mod QuotientHolds
+mod BasisLaws

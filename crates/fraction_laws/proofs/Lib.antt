@@ -13,8 +13,8 @@ pub mod Translations
 pub mod Premises
 pub mod Independence
 pub mod Units
-pub mod LawsHold
 pub mod CurveLaws
 -- for the laws here alone
+mod LawsHold
 mod PowerBound
 mod DimensionOfPowers

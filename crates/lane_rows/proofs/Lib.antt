@@ -1,2 +1,4 @@
+-- for the crates above: rows by their entries
 pub mod Entries
-pub mod Residues
+-- for the kernels alone
+mod Residues

@@ -1,4 +1,5 @@
-pub mod WordLemmas
-pub mod ProblemLemmas
-pub mod InputLemmas
-pub mod RunLemmas
+-- for the runs alone
+mod WordLemmas
+mod ProblemLemmas
+mod InputLemmas
+mod RunLemmas

@@ -12,20 +12,18 @@ pub mod Field
 pub mod Instance
 -- leads of products, and the order of their terms
 pub mod Leads
--- the p-th power of a polynomial, and powers of powers
-pub mod Frobenius
 -- terms at a place of a list, and merges
 pub mod Merge
 -- cut lists, and products term by term
 pub mod Products
--- exponents k times as great
-pub mod Raised
--- the laws as they are stated
-pub mod Stated
 -- the laws of sums and products
 pub mod Sums
 -- the polynomial 1, powers, multiples by numbers
 pub mod Units
 -- two lists of terms with the same weights have one normal form
 pub mod Weights
+-- for this crate alone
+mod Frobenius
+mod Raised
+mod Stated
 mod Tops

@@ -1,6 +1,7 @@
-pub mod Sums
-pub mod Seats
-pub mod Steps
-pub mod Cuts
-pub mod Whole
-pub mod Shown
+-- for this crate alone
+mod Sums
+mod Seats
+mod Steps
+mod Cuts
+mod Whole
+mod Shown

@@ -1,11 +1,13 @@
+-- for the crates above: sums of multiples of rows, and rows that are written and gathered
 pub mod Weights
 pub mod Members
-pub mod Rest
-pub mod Adding
 pub mod Written
 pub mod Gathering
-pub mod Spaces
-pub mod Together
-pub mod RightParts
-pub mod Images
-pub mod Finding
+-- for this crate alone
+mod Rest
+mod Adding
+mod Spaces
+mod Together
+mod RightParts
+mod Images
+mod Finding

@@ -1,3 +1,4 @@
-pub mod Counted
-pub mod Places
-pub mod Unwon
+-- for this crate alone
+mod Counted
+mod Places
+mod Unwon
