@@ -1,0 +1,6 @@
+mod Expansion
+mod Settings
+mod Steps
+mod Found
+mod Leads
+mod Made

@@ -1,0 +1,11 @@
+//! Digits modulo powers of the denominator, made from lifts of the leads, block by block.
+#![tactic(auto)]
+
+mod blocks;
+mod growing;
+mod making;
+mod plan;
+mod planning;
+mod rules;
+
+pub use making::make;
