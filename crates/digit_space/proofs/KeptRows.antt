@@ -37,7 +37,7 @@ module _ (C : CommRing) where
 
   infix 40 ◌≈◌
   infixl 60 ◌⊕◌
-  none_before : (x : carrier) → 𝟘 ⊕ x ≈ x
+  pub none_before : (x : carrier) → 𝟘 ⊕ x ≈ x
   none_before x = ring C (x ∷ []) (search quote depth 20) tt
 
   none_behind : (x : carrier) → x ⊕ 𝟘 ≈ x
