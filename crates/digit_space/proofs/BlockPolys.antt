@@ -3,7 +3,7 @@ use Rattle.std.proofs.Common.{◌≡◌, ℕ, zero, suc, ◌+◌, ◌-◌, ◌*�
 use Rattle.std.proofs.Math.Seq.{drop-drop}
 use Rattle.std.proofs.lemmas.List.{drop_more, drop_all, length-drop, length-take-le, get_or-drop, get_or_default, take-append-drop}
 use Rattle.std.proofs.lemmas.List.Elements.{All-drop, All-take}
-use Rattle.std.specs.List.{Contains, AllPairs}
+use Rattle.std.specs.List.{Contains}
 use Rattle.std.specs.declared.cmp.Ordering.TheVariants.{Less}
 use Rattle.monomials.specs.Mono.{Monomial, IsMono, unit, cmp_dp}
 use Rattle.polys.specs.declared.term.Term.{Term}
@@ -177,8 +177,7 @@ module _ (g : DigitData) (s : IsDigitSpace g) where
       → IsRow g.curve.prime (length g.basis) (take (length g.basis) (drop to row))
   block_row row from to f h b l e =
       let w = from_within row from f h b in
-      let n = block_before row from f b l in
-      (
+      let n = block_before row from f b l in (
         length-take-le (length g.basis) (drop to row) (let v = length-drop to row in omega arith),
         All-take (λ x. x < g.curve.prime) (length g.basis) (drop to row) (All-drop (λ x. x < g.curve.prime) to row h.1),
       )

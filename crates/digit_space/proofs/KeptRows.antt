@@ -16,7 +16,7 @@ use Rattle.polys.specs.Ideal.{number_combination}
 use Rattle.polys.specs.Curve.{CurveData, data_of}
 use Rattle.polys.proofs.Affine.{mul_constant, sevens_of}
 use Rattle.curve_model.specs.Laws.{IsFinite, ArePolys}
-use Rattle.curve_laws.proofs.Base.{high, Ring, member}
+use Rattle.curve_laws.proofs.Base.{Ring, member}
 use Rattle.curve_laws.proofs.Scalars.{scalar_map}
 use Rattle.lane_rows.specs.Rows.{AreResidues}
 use Rattle.row_space.specs.Echelon.{IsRow}

@@ -1,18 +1,16 @@
 -- Degrees of corners and of values of rows.
-use Rattle.std.proofs.Common.{◌≡◌, ◌≢◌, ℕ, zero, suc, ◌+◌, ◌-◌, ◌*◌, ◌<◌, ◌≤◌, List, [], ◌∷◌, ◌++◌, map, length, get_or, All, max, refl, sym, ap, ◌∙◌, subst, arith}
+use Rattle.std.proofs.Common.{◌≡◌, ℕ, zero, suc, ◌+◌, ◌*◌, ◌<◌, ◌≤◌, List, [], ◌∷◌, map, length, get_or, All, refl, sym, ap, ◌∙◌, subst, arith}
 use Rattle.std.proofs.lemmas.List.{length-map, get_or-map}
 use Rattle.std.proofs.lemmas.List.Elements.{All-nil, All-cons, All-head, All-tail, All-append}
-use Rattle.std.specs.List.{Contains}
-use Rattle.monomials.specs.Mono.{Monomial, Divides, unit, times, variable, total_degree}
+use Rattle.monomials.specs.Mono.{Monomial, unit, times, variable, total_degree}
 use Rattle.monomials.proofs.Factors.{divides_law}
 use Rattle.polys.specs.declared.term.Term.{Term}
-use Rattle.polys.specs.Terms.{IsAffine, IsPoly, degree_of, add, mul, multiple}
+use Rattle.polys.specs.Terms.{IsAffine, IsPoly, degree_of, mul, multiple}
 use Rattle.polys.specs.Ideal.{number_combination}
-use Rattle.polys.specs.Curve.{CurveData, data_of}
-use Rattle.polys.proofs.Affine.{mul_constant, sevens_of, constant}
+use Rattle.polys.specs.Curve.{data_of}
 use Rattle.polys.proofs.Degrees.{degree_of-mul, degree_of-add, degree_le, each_degree}
 use Rattle.polys.proofs.Each.{every_multiple}
-use Rattle.standard_monomials.specs.Standard.{IsStandard, AreSomeStandard, AreDistinct, polynomial_of}
+use Rattle.standard_monomials.specs.Standard.{IsStandard, AreSomeStandard, polynomial_of}
 use Rattle.standard_monomials.proofs.Counting.{count_law}
 use Rattle.standard_monomials.proofs.Powers.{length_power}
 use Rattle.standard_monomials.proofs.Search.{Lowered, lowered, found_law}
@@ -34,8 +32,7 @@ module _ (n : ℕ) (ds : List (List Term)) where
       let r : Lowered 7 n m.exponents = lowered 7 n m.exponents s.affine.seven s.affine.first (omega arith) in
       let w : Monomial = record { exponents = r.rest; component = 0 } in
       let affine : IsAffine n w = record { seven = r.as_many; first = r.first; plain = refl } in
-      let whole : times w (variable r.place) ≡ m = λ i. record { exponents = r.whole i; component = sym s.affine.plain i } in
-      (
+      let whole : times w (variable r.place) ≡ m = λ i. record { exponents = r.whole i; component = sym s.affine.plain i } in (
         w,
         (let x = r.lower in omega arith),
         found_law.divisor n ds w m affine ((divides_law w m (r.as_many ∙ sym s.affine.seven)).1 (variable r.place, r.as_many ∙ sym (length_power 7 r.place 1), refl, sym whole)) s,
@@ -53,11 +50,14 @@ module _ (n : ℕ) (ds : List (List Term)) where
       degrees (suc i) d l = let q = k.degrees i d (omega arith) in omega arith
 
   chain : (D : ℕ) (m : Monomial) → total_degree m.exponents ≡ D → IsStandard n ds m → (cs : List Monomial) × IsChain n ds D cs
-  chain zero m e s = (m ∷ [], record {
-    long = refl;
-    each = All-cons (IsStandard n ds) m [] s (All-nil (IsStandard n ds));
-    degrees = degrees;
-  })
+  chain zero m e s = (
+    m ∷ [],
+    record {
+      long = refl;
+      each = All-cons (IsStandard n ds) m [] s (All-nil (IsStandard n ds));
+      degrees = degrees;
+    },
+  )
     where
       degrees : (i : ℕ) (d : Monomial) → i < 1 → total_degree (get_or (m ∷ []) i d).exponents + i ≡ 0
       degrees zero d l = (let w : total_degree m.exponents + 0 ≡ 0 = omega arith in w)
@@ -82,7 +82,7 @@ module _ (g : DigitData) (s : IsDigitSpace g) where
       let c = finite g s in
       let k = chain g.curve.variables s.corners.basis (total_degree (corner g i).exponents) (corner g i) refl (standard g s (corner g i) (corner_there g s i l)) in
       let most = count_law.some A.prime A.variables (A.denominator ∷ A.ideal) s.corners.basis k.0 (length g.basis) s.prime
-          (All-cons (IsPoly A.prime A.variables) A.denominator A.ideal c.curve.denominator c.curve.ideal) s.corners.standard (chain_some g.curve.variables s.corners.basis (total_degree (corner g i).exponents) k.0 k.1) (dimension g s) in
+      (All-cons (IsPoly A.prime A.variables) A.denominator A.ideal c.curve.denominator c.curve.ideal) s.corners.standard (chain_some g.curve.variables s.corners.basis (total_degree (corner g i).exponents) k.0 k.1) (dimension g s) in
       let f = few g s in
       let long = k.1.long in
       omega arith

@@ -1,4 +1,4 @@
-use Rattle.std.proofs.Common.{◌≡◌, ◌+◌, ◌-◌, ◌<◌, ◌++◌, ◌∷◌, [], length, get_or, ap, sym, subst, ◌∙◌, arith}
+use Rattle.std.proofs.Common.{◌≡◌, ◌-◌, get_or, ap, sym, subst, ◌∙◌, arith}
 use Rattle.polys.specs.Poly.{IsVector}
 use Rattle.digit_space.specs.Model.{IsDigitSpace}
 use Rattle.digit_space.proofs.BlockPolys.{BlockTerms, term_kept, term_passed, terms_vector}

@@ -2,9 +2,9 @@ use Rattle.std.proofs.Common.{◌≡◌, ◌+◌, ◌-◌, length, take, drop, a
 use Rattle.polys.specs.Terms.{IsAffine, add, degree_of, mul}
 use Rattle.polys.specs.Poly.{IsPlain}
 use Rattle.polys.proofs.Each.{every_more}
-use Rattle.digit_space.specs.Model.{IsDigitSpace, IsDigitsOf}
+use Rattle.digit_space.specs.Model.{IsDigitSpace}
 use Rattle.digit_space.specs.Adding.{corner_sum}
-use Rattle.digit_space.proofs.BlockPolys.{BlocksValued, blocks_begin, block_row, one_block_more, blocks_poly, blocks_low, blocks_end}
+use Rattle.digit_space.proofs.BlockPolys.{blocks_begin, one_block_more, blocks_poly, blocks_low, blocks_end}
 use Rattle.digit_space.proofs.digits.Digits.poly_of.Goals as goal
 
 pub loop-from-init : goal.loop-from-init
