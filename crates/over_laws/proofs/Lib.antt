@@ -4,3 +4,4 @@ pub mod Rows
 mod Steps
 mod Endo
 mod BaseIdeals
+mod BaseAlgebras

@@ -1,16 +1,17 @@
 -- Ideals of A/d by digits.
-use Rattle.std.specs.Prelude.{◌≡◌, ◌↔◌, ℕ, List, length}
+use Rattle.std.specs.Prelude.{◌≡◌, ◌↔◌, ℕ, ◌+◌, ◌*◌, ◌<◌, List, [], length, slice_index_or}
 use Rattle.std.specs.List.{AllZip}
 use Rattle.comm_ring.specs.Ring.{IsCommRing}
 use Rattle.comm_ring.specs.Ideals.{InIdeal}
-use Rattle.monomials.specs.Mono.{Monomial}
+use Rattle.monomials.specs.Mono.{Monomial, unit}
 use Rattle.polys.specs.declared.term.Term.{Term}
-use Rattle.polys.specs.Terms.{IsPoly, mul}
+use Rattle.polys.specs.Terms.{IsPoly, one, mul}
 use Rattle.polys.specs.Ideal as Polys
 use Rattle.polys.specs.Curve.{CurveData}
 use Rattle.curve_model.specs.Laws.{IsFinite, ArePolys}
 use Rattle.curve_model.specs.OneExponent.{InPower}
-use Rattle.finite_algebra.specs.Elements.{FiniteAlgebra, IsElement, times, ring_of}
+use Rattle.finite_algebra.specs.Elements.{FiniteAlgebra, IsAlgebra, IsElement, times, ring_of}
+use Rattle.standard_monomials.specs.Standard.{polynomial_of}
 use Rattle.digit_laws.specs.Digits.{AreCornersOf, value, AreDigits}
 
 -- a works with digits modulo I and d^T
@@ -27,3 +28,17 @@ GeneratedByDigits =
     → (P : List (List Term)) → ArePolys A P → ((f : List Term) → InPower A 1 f → Polys.InIdeal A.prime A.variables P f)
     → (gs : List (List ℕ)) → AllZip (AreDigits A ms 1) P gs
     → (f : List Term) (x : List ℕ) → IsPoly A.prime A.variables f → AreDigits A ms 1 f x → Polys.InIdeal A.prime A.variables P f ↔ InIdeal (ring_of a) gs x
+
+-- the one is the digits of 1, and the row i N + j of the products those of the product of the corners i and j
+pub record HasCornerProducts (A : CurveData) (ms : List Monomial) (a : FiniteAlgebra) : Type 0 where
+  pub prime : a.prime ≡ A.prime
+  pub dimension : a.dimension ≡ length ms
+  pub count : length a.products ≡ length ms * length ms
+  pub one : AreDigits A ms 1 one a.one
+  pub products : (i j : ℕ) → i < length ms → j < length ms
+      → AreDigits A ms 1 (mul A.prime (polynomial_of (slice_index_or ms i unit)) (polynomial_of (slice_index_or ms j unit))) (slice_index_or a.products (i * length ms + j) [])
+
+-- such rows are an algebra, and its product is that of classes modulo I and d
+abbrev pub CornerProductsAreAlgebras : Type 0
+CornerProductsAreAlgebras =
+    (A : CurveData) → IsFinite A → (ms : List Monomial) → AreCornersOf A ms → (a : FiniteAlgebra) → HasCornerProducts A ms a → IsAlgebra a × IsDigitAlgebra A ms 1 a
