@@ -272,8 +272,10 @@ impl Digits {
         }
     }
 
-    // The digits of the row's polynomial times each corner, each but the first from one before it.
-    fn multiples(&self, row: &[u32]) -> Result<List<List<u32>>, NoMemory>
+    /// The digits of the row's polynomial times each corner, in the order of the corners.
+    ///
+    /// Each but the first is a product by one variable of one before it: N times `times_var`.
+    pub fn multiples(&self, row: &[u32]) -> Result<List<List<u32>>, NoMemory>
         requires { IsDigitRow self.now row.now }
         ensures count { IfOk result (λ rows. length rows ≡ length self.now.basis) }
         ensures rows { IfOk result

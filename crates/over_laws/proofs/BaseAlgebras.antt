@@ -61,7 +61,7 @@ module _ (A : CurveData) (c : IsFinite A) (ms : List Monomial) (k : AreCornersOf
   unfolding spread
   corner_places = append-nil U
 
-  corner_polys : ArePolys A U
+  pub corner_polys : ArePolys A U
   corner_polys = subst (ArePolys A) corner_places (place_polys A c ms k 1)
 
   value_is : (x : List ℕ) → value A ms 1 x ≡ number_combination A.prime x U
