@@ -4,6 +4,7 @@ pub mod ChainLaws
 pub mod OneExponent
 -- the steps of a chain of rings of local fractions, and of a sum of parts
 pub mod StepLaws
+-- of independent local fractions any smaller number are independent
+pub mod FewerLaws
 -- for this crate alone
-mod FewerLaws
 mod ClosureBound

@@ -1,0 +1,116 @@
+-- Monomials that are found in lists, and lists that grow.
+use Rattle.std.proofs.Common.{◌≡◌, ℕ, zero, suc, ◌+◌, ◌-◌, ◌*◌, ◌<◌, ◌≤◌, replicate, List, [], ◌∷◌, ◌++◌, map, length, get_or, take, refl, sym, ap, ap₂, ◌∙◌, subst, arith}
+use Rattle.std.specs.List.{All}
+use Rattle.std.specs.declared.cmp.Ordering.{Ordering}
+use Rattle.std.specs.declared.cmp.Ordering.TheVariants.{Less, Equal, Greater}
+use Rattle.std.specs.Ordering.{nat_cmp, MatchOrdering}
+use Rattle.std.specs.Cmp.{ranks}
+use Rattle.std.proofs.lemmas.List.{get_or_append_left, get_or_push, get_or_default, length_push, map-append, take_more}
+use Rattle.std.proofs.lemmas.List.Elements.{All-push}
+use Rattle.std.proofs.Math.Nat.{mul-le-mul_left}
+use Rattle.monomials.specs.Mono.{Monomial, unit, times, variable, cmp_dp}
+use Rattle.monomials.proofs.Order.{same_dp}
+use Rattle.polys.specs.declared.term.Term.{Term}
+use Rattle.polys.specs.Terms.{IsAffine, OnlyFirst, IsCanonical}
+use Rattle.polys.proofs.Merge.{coeff_at}
+use Rattle.digit_space.specs.declared.products.Product.{Product}
+use Rattle.digit_make.specs.declared.plan.Place.{Place}
+use Rattle.digit_make.specs.declared.plan.Share.{Share}
+use Rattle.digit_make.specs.Planned.{AreFirstProducts, AreSharesIn, IsFoundIn, IsPlaceIn, monomial_in, terms_in}
+
+pub found : (list : List Monomial) (i : ℕ) (m w : Monomial) → i < length list → w ≡ get_or list i w → cmp_dp w m ≡ Equal → m ≡ get_or list i unit
+found list i m w l e q = sym (same_dp w m q) ∙ e ∙ get_or_default list i w unit l
+
+pub mono_read : (monomials list : List Monomial) (j : ℕ) (m : Monomial) → list ≡ monomials → j < length monomials → m ≡ get_or list j m → m ≡ get_or monomials j unit
+mono_read monomials list j m e l q = q ∙ ap (λ z. get_or z j m) e ∙ get_or_default monomials j m unit l
+
+-- ---- affine monomials
+
+only_zeros : (a : List ℕ) → ((i : ℕ) → get_or a i 0 ≡ 0) → OnlyFirst zero a
+only_zeros [] h = tt
+only_zeros (x ∷ a) h = (h 0, only_zeros a (λ i. h (suc i)))
+
+only_first : (n : ℕ) (a : List ℕ) → ((i : ℕ) → n ≤ i → get_or a i 0 ≡ 0) → OnlyFirst n a
+only_first zero a h = only_zeros a (λ i. h i (omega arith))
+only_first (suc n) [] h = tt
+only_first (suc n) (x ∷ a) h = only_first n a (λ i l. h (suc i) (omega arith))
+
+past : (a : List ℕ) (i : ℕ) → length a ≤ i → get_or a i 0 ≡ 0
+past [] i l = refl
+past (x ∷ a) zero l = absurd (omega arith)
+past (x ∷ a) (suc i) l = past a i (omega arith)
+
+pub affine_by : (n : ℕ) (m : Monomial) → length m.exponents ≡ 7 → get_or m.exponents 6 0 ≡ 0 → m.component ≡ 0 → ((i : ℕ) → n ≤ i → i < 6 → get_or m.exponents i 0 ≡ 0) → IsAffine n m
+affine_by n m seven last plain h = record { seven = seven; first = only_first n m.exponents (λ i l. each i l (nat_cmp i 6) (ranks i 6)); plain = plain }
+  where
+    each : (i : ℕ) → n ≤ i → (r : Ordering) → MatchOrdering r (i < 6) (i ≡ 6) (6 < i) → get_or m.exponents i 0 ≡ 0
+    each i l Less q = h i l q
+    each i l Equal q = ap (λ z. get_or m.exponents z 0) q ∙ last
+    each i l Greater q = past m.exponents i (omega arith)
+
+-- ---- lists that gain a member
+
+pub each_push : {X : Type 0} (P : ℕ → X → Type 0) (xs : List X) (x : X) → ((j : ℕ) (d : X) → j < length xs → P j (get_or xs j d)) → P (length xs) x
+    → (j : ℕ) (d : X) → j < length (xs ++ x ∷ []) → P j (get_or (xs ++ x ∷ []) j d)
+each_push P xs x h p j d l = go (nat_cmp j (length xs)) (ranks j (length xs))
+  where
+    go : (r : Ordering) → MatchOrdering r (j < length xs) (j ≡ length xs) (length xs < j) → P j (get_or (xs ++ x ∷ []) j d)
+    go Less q = subst (P j) (sym (get_or_append_left xs (x ∷ []) d j q)) (h j d q)
+    go Equal q = subst (λ z. P z (get_or (xs ++ x ∷ []) z d)) (sym q) (subst (P (length xs)) (sym (get_or_push xs x d (length xs) refl)) p)
+    go Greater q = absurd (omega (arith, length_push xs x))
+
+same_place : (n v w i j : ℕ) → i < n → j < n → w * n + j ≡ v * n + i → (w ≡ v) × (j ≡ i)
+same_place n v w i j a b e = go (nat_cmp w v) (ranks w v)
+  where
+    go : (r : Ordering) → MatchOrdering r (w < v) (w ≡ v) (v < w) → (w ≡ v) × (j ≡ i)
+    go Less q = let h : n * suc w ≤ n * v = mul-le-mul_left n (let z : suc w ≤ v = omega arith in z) in absurd (omega arith)
+    go Equal q = (q, (let h : w * n ≡ v * n = ap (λ z. z * n) q in omega arith))
+    go Greater q = let h : n * suc v ≤ n * w = mul-le-mul_left n (let z : suc v ≤ w = omega arith in z) in absurd (omega arith)
+
+pub products_push : (corners border : List Monomial) (products : List Product) (v i : ℕ) (product : Product) (m e : Monomial) → i < length corners → length products ≡ v * length corners + i
+    → AreFirstProducts corners border products → m ≡ times e (variable v) → e ≡ get_or corners i unit → IsFoundIn corners border m product → AreFirstProducts corners border (products ++ product ∷ [])
+products_push corners border products v i product m e a k h q r f w j d b l = go (nat_cmp (w * length corners + j) (length products)) (ranks (w * length corners + j) (length products))
+  where
+    Found : ℕ → ℕ → Product → Type 0
+    Found w j d = IsFoundIn corners border (times (get_or corners j unit) (variable w)) d
+
+    go : (r : Ordering) → MatchOrdering r (w * length corners + j < length products) (w * length corners + j ≡ length products) (length products < w * length corners + j)
+        → IsFoundIn corners border (times (get_or corners j unit) (variable w)) (get_or (products ++ product ∷ []) (w * length corners + j) d)
+    go Less s = subst (IsFoundIn corners border (times (get_or corners j unit) (variable w))) (sym (get_or_append_left products (product ∷ []) d (w * length corners + j) s)) (h w j d b s)
+    go Equal s =
+        let p = same_place (length corners) v w i j a b (s ∙ k) in
+        subst (IsFoundIn corners border (times (get_or corners j unit) (variable w))) (sym (get_or_push products product d (w * length corners + j) (sym s)))
+        (subst (λ z. IsFoundIn corners border z product) (q ∙ ap₂ (λ x y. times x (variable y)) (r ∙ ap (λ z. get_or corners z unit) (sym p.1)) (sym p.0)) f)
+    go Greater s = absurd (omega (arith, length_push products product))
+
+-- a share more
+pub shares_push : (p : ℕ) (corners border outer : List Monomial) (shares : List Share) (ts : List Term) (i : ℕ) (t : Term) (place : Place) → IsCanonical p ts → i < length ts → t ≡ get_or ts i t
+    → IsPlaceIn corners border outer place × (t.mono ≡ monomial_in corners border outer place) → AreSharesIn p corners border outer shares → terms_in corners border outer shares ≡ take i ts
+    → AreSharesIn p corners border outer (shares ++ record { coeff = t.coeff; place = place } ∷ [])
+    × (terms_in corners border outer (shares ++ record { coeff = t.coeff; place = place } ∷ []) ≡ take (i + 1) ts)
+shares_push p corners border outer shares ts i t place c l e f a b = (
+  All-push (λ s. (s.coeff < p) × IsPlaceIn corners border outer s.place) shares (record { coeff = t.coeff; place = place }) a ((coeff_at p ts i t c l e).1, f.0),
+  map-append (λ (s : Share). record { coeff = s.coeff; mono = monomial_in corners border outer s.place }) shares (record { coeff = t.coeff; place = place } ∷ [])
+      ∙ ap₂ (λ x y. x ++ y ∷ []) b (λ k. record { coeff = t.coeff; mono = sym f.1 k })
+      ∙ sym (take_more ts i t l ∙ ap (λ z. take i ts ++ z ∷ []) (sym e)),
+)
+
+-- a trimmed row more
+pub rows_push : (wide : ℕ) (rows short : List (List ℕ)) (row : List ℕ) (j : ℕ) → j < length rows → length short ≡ j
+    → ((i : ℕ) (d : List ℕ) → i < length short → (length (get_or rows i d) ≡ wide) × (length (get_or short i d) ≤ wide) × (get_or short i d ++ replicate (wide - length (get_or short i d)) 0 ≡ get_or rows i d))
+    → (length (get_or rows j []) ≡ wide) × (length row ≤ wide) × (row ++ replicate (wide - length row) 0 ≡ get_or rows j [])
+    → (i : ℕ) (d : List ℕ) → i < length (short ++ row ∷ [])
+    → (length (get_or rows i d) ≡ wide) × (length (get_or (short ++ row ∷ []) i d) ≤ wide) × (get_or (short ++ row ∷ []) i d ++ replicate (wide - length (get_or (short ++ row ∷ []) i d)) 0 ≡ get_or rows i d)
+rows_push wide rows short row j l e h k i d m = go (nat_cmp i (length short)) (ranks i (length short))
+  where
+    T : List ℕ → List ℕ → Type 0
+    T a b = (length b ≡ wide) × (length a ≤ wide) × (a ++ replicate (wide - length a) 0 ≡ b)
+
+    go : (r : Ordering) → MatchOrdering r (i < length short) (i ≡ length short) (length short < i)
+        → (length (get_or rows i d) ≡ wide) × (length (get_or (short ++ row ∷ []) i d) ≤ wide) × (get_or (short ++ row ∷ []) i d ++ replicate (wide - length (get_or (short ++ row ∷ []) i d)) 0 ≡ get_or rows i d)
+    go Less q = subst (λ z. (length (get_or rows i d) ≡ wide) × (length z ≤ wide) × (z ++ replicate (wide - length z) 0 ≡ get_or rows i d)) (sym (get_or_append_left short (row ∷ []) d i q)) (h i d q)
+    go Equal q =
+        let at : get_or rows j [] ≡ get_or rows i d = get_or_default rows j [] d l ∙ ap (λ z. get_or rows z d) (sym (q ∙ e)) in
+        subst (λ z. (length (get_or rows i d) ≡ wide) × (length z ≤ wide) × (z ++ replicate (wide - length z) 0 ≡ get_or rows i d)) (sym (get_or_push short row d i (sym q)))
+        (subst (λ z. (length z ≡ wide) × (length row ≤ wide) × (row ++ replicate (wide - length row) 0 ≡ z)) at k)
+    go Greater q = absurd (omega (arith, length_push short row))

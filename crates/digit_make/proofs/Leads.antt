@@ -1,0 +1,95 @@
+-- The corners by a reduced basis, and the rule of a lead.
+use Rattle.std.proofs.Common.{◌≡◌, ℕ, ◌+◌, ◌-◌, ◌*◌, ◌<◌, ◌≤◌, List, [], ◌∷◌, map, length, get_or, refl, sym, ap, ap₂, ◌∙◌, subst, arith}
+use Rattle.std.proofs.lemmas.List.{get_or-map, length-map}
+use Rattle.std.specs.List.{All, Contains}
+use Rattle.std.proofs.lemmas.List.Elements.{All-cons, All-weaker, All-contains, All-contains_itself, All-get_or, All-map}
+use Rattle.comm_ring.specs.Ring.{CommRing}
+use Rattle.comm_ring.proofs.Quote.{ring, quote}
+use Rattle.prime_field.specs.Primes.{IsPrime}
+use Rattle.prime_field.proofs.Table.{positive_of_prime, above_one}
+use Rattle.monomials.specs.Mono.{Monomial}
+use Rattle.polys.specs.declared.term.Term.{Term}
+use Rattle.polys.specs.Terms.{IsAffine, IsPoly, normal, add, sub, mul}
+use Rattle.polys.specs.Ideal.{InIdeal}
+use Rattle.polys.specs.Poly.{Polynomial, terms_of}
+use Rattle.polys.specs.Curve.{IsOver}
+use Rattle.polys.proofs.Affine.{poly_mul, poly_sub}
+use Rattle.polys.proofs.Sums.{mul_comm}
+use Rattle.polys.proofs.Units.{canonical_same}
+use Rattle.ideal_laws.proofs.Ideals.{in_generator, in_poly}
+use Rattle.homogenising.specs.Laws.{HasAffineLeads}
+use Rattle.standard_monomials.specs.Standard.{AreStandard, IsRising, IsStandardBasis, polynomial_of}
+use Rattle.standard_monomials.proofs.Bases.{reduced_law}
+use Rattle.standard_monomials.proofs.Space as Space
+use Rattle.lift_colon.specs.Lifted.{LiftedData, IsLifted, IsLift}
+use Rattle.digit_laws.specs.Digits.{AreCornersOf}
+use Rattle.digit_make.specs.declared.plan.Share.{Share}
+use Rattle.digit_make.specs.Making.{curve_of_lifted}
+use Rattle.digit_make.specs.Planned.{IsLeadSumIn, terms_in}
+
+module _ (C : CommRing) where
+  open C use {carrier, ◌≈◌, ◌⊕◌, ◌⊗◌, neg}
+
+  infix 40 ◌≈◌
+  infixl 60 ◌⊕◌
+  infixl 70 ◌⊗◌
+  rest_is : (x d u g : carrier) → x ⊕ neg (d ⊗ u ⊕ (x ⊕ neg g)) ≈ g ⊕ neg (u ⊗ d)
+  rest_is x d u g = ring C (x ∷ d ∷ u ∷ g ∷ []) (search quote depth 20) tt
+
+terms_poly : (p n : ℕ) (fs : List Polynomial) → All (IsOver p n) fs → All (IsPoly p n) (terms_of fs)
+terms_poly p n fs a = All-map (IsPoly p n) (λ (f : Polynomial). f.terms) fs (All-weaker (IsOver p n) (λ (f : Polynomial). IsPoly p n f.terms) (λ f o. o.poly) fs a)
+
+module _ (l : LiftedData) (h : IsLifted l) where
+  positive : 0 < l.prime
+  positive = positive_of_prime l.prime h.prime
+
+  sum_polys : All (IsPoly l.prime l.variables) (terms_of l.sum)
+  sum_polys = terms_poly l.prime l.variables l.sum h.sum_over
+
+  gens : All (IsPoly l.prime l.variables) (l.denominator.terms ∷ terms_of l.ideal)
+  gens = All-cons (IsPoly l.prime l.variables) l.denominator.terms (terms_of l.ideal) h.denominator.poly (terms_poly l.prime l.variables l.ideal h.ideal_over)
+
+  standard : IsStandardBasis l.prime l.variables (l.denominator.terms ∷ terms_of l.ideal) (terms_of l.sum)
+  standard =
+      let base = reduced_law l.prime l.variables (terms_of l.sum) h.prime h.sum.reduced in record {
+        members = All-weaker (Contains (terms_of l.sum)) (InIdeal l.prime l.variables (l.denominator.terms ∷ terms_of l.ideal))
+            (λ f c. (h.sum.exact f (All-contains (IsPoly l.prime l.variables) (terms_of l.sum) f sum_polys c)).0
+            (in_generator l.prime l.variables (terms_of l.sum) f (above_one l.prime h.prime) sum_polys c))
+            (terms_of l.sum) (All-contains_itself (terms_of l.sum));
+        monic = base.monic;
+        leads = λ t f i. base.leads t f ((h.sum.exact (t ∷ f) (in_poly l.prime l.variables (l.denominator.terms ∷ terms_of l.ideal) (t ∷ f) positive gens i)).1 i);
+      }
+
+  pub corners_by : (ms : List Monomial) → AreStandard l.variables (terms_of l.sum) ms → IsRising ms → AreCornersOf (curve_of_lifted l) ms
+  corners_by ms a r = record { basis = terms_of l.sum; standard = standard; all = a; rising = r }
+
+  -- the rule of a lead by a lift of a polynomial
+  pub lead_by : (corners border outer : List Monomial) (m : Monomial) (g u tail : List Term) (tail_shares lift_shares : List Share) → IsAffine l.variables m → IsPoly l.prime l.variables g
+      → IsLift l g u → tail ≡ sub l.prime (polynomial_of m) g → terms_in corners border outer tail_shares ≡ tail → terms_in corners border outer lift_shares ≡ u
+      → IsLeadSumIn (curve_of_lifted l) corners border outer m tail_shares lift_shares
+  lead_by corners border outer m g u tail tail_shares lift_shares a hg k e q r = subst (InIdeal l.prime l.variables (terms_of l.ideal)) (sym same) k.lifts
+    where
+      R : CommRing
+      R = Space.Ring l.prime l.variables h.prime
+
+      m_poly : IsPoly l.prime l.variables (polynomial_of m)
+      m_poly = record { canonical = ((omega arith), above_one l.prime h.prime, tt, tt); affine = (a, tt) }
+
+      t_poly : IsPoly l.prime l.variables (sub l.prime (polynomial_of m) g)
+      t_poly = poly_sub l.prime l.variables (polynomial_of m) g positive m_poly hg
+
+      same : sub l.prime (polynomial_of m) (add l.prime (mul l.prime l.denominator.terms (normal l.prime (terms_in corners border outer lift_shares))) (normal l.prime (terms_in corners border outer tail_shares)))
+          ≡ sub l.prime g (mul l.prime u l.denominator.terms)
+      same =
+          ap₂ (λ x y. sub l.prime (polynomial_of m) (add l.prime (mul l.prime l.denominator.terms x) y))
+          (ap (normal l.prime) r ∙ canonical_same l.prime u k.poly.canonical)
+          (ap (normal l.prime) (q ∙ e) ∙ canonical_same l.prime (sub l.prime (polynomial_of m) g) t_poly.canonical)
+          ∙ rest_is (Space.Ring l.prime l.variables h.prime) (record { terms = polynomial_of m; is_poly = m_poly }) (record { terms = l.denominator.terms; is_poly = h.denominator.poly })
+            (record { terms = u; is_poly = k.poly }) (record { terms = g; is_poly = hg })
+
+-- what holds of the terms of each polynomial holds of those that are read
+pub low_read : (P : List Term → Type 0) (fs list : List Polynomial) (i : ℕ) (f : Polynomial) → All P (terms_of fs) → list ≡ fs → i < length list → f ≡ get_or list i f → P f.terms
+low_read P fs list i f h e l q =
+    let short : i < length fs = (let w = ap length e in omega arith) in
+    subst P (get_or-map (λ (g : Polynomial). g.terms) fs i f [] short ∙ ap (λ (g : Polynomial). g.terms) (ap (λ z. get_or z i f) (sym e) ∙ sym q))
+    (All-get_or P (terms_of fs) i [] (let w = length-map fs (λ (g : Polynomial). g.terms) in omega arith) h)

@@ -1,0 +1,8 @@
+mod Expansion
+mod Settings
+mod Steps
+mod Found
+mod Leads
+mod Made
+mod Deeper
+mod Fits

@@ -1,0 +1,5 @@
+use Rattle.digit_make.specs.Planned.{AreRowsOf}
+use Rattle.digit_make.proofs.growing.grow_outer.Given as goal
+
+abbrev pub invariant-loop-j : goal.invariant-loop-j
+invariant-loop-j l = AreRowsOf l.plan l.rows

@@ -1,0 +1,16 @@
+//! Digits modulo powers of the denominator, made from lifts of the leads, block by block.
+#![tactic(auto)]
+
+mod blocks;
+mod extending;
+mod growing;
+mod making;
+mod plan;
+mod planning;
+mod rules;
+
+pub use extending::extended;
+pub use making::make;
+
+#[cfg(test)]
+mod tests;

@@ -1,0 +1,256 @@
+// How the digits of each monomial outside the corners come from those of others.
+ghost use Rattle.std.specs.Prelude.{◌≡◌, ◌+◌, ◌*◌, ◌<◌, ◌≤◌, length, All, IfOk, OnOk, IfSome};
+ghost use Rattle.monomials.specs.Mono.{times, variable};
+ghost use Rattle.polys.specs.Curve.{IsOver};
+ghost use Rattle.polys.specs.Terms.{IsAffine, degree_of};
+ghost use Rattle.lift_colon.specs.Lifted.{IsLifted};
+ghost use Rattle.digit_make.specs.declared.plan.Place.{Place};
+ghost use Rattle.digit_make.specs.declared.plan.Rule.TheVariants.{Multiple};
+ghost use Rattle.digit_make.specs.Making.{curve_of_lifted};
+ghost use Rattle.digit_make.specs.Planned.{monomial_in, IsPlaceIn, terms_in, AreSharesIn, IsRuleIn, AreRulesIn, IsFoundIn, AreFirstProducts};
+
+use crate::plan::{Place, Rule, Share};
+use crate::planning::{find, multiple, not_found, quotient};
+use digit_space::Product;
+use lift_colon::Lifted;
+use lists::{List, NoMemory};
+use monomials::Mono;
+use polys::{Poly, Term};
+use std::alloc::Global;
+use std::cmp::Ordering;
+
+/// The monomials whose digits are made, and the order in which variables are tried.
+#[derive(Drop)]
+pub struct Play {
+    pub order: Vec<u32>,
+    pub corners: List<Mono>,
+    pub border: List<Mono>,
+    pub outer: List<Mono>,
+}
+
+/// A bound for the numbers of corners and of monomials of the border.
+const MOST_PLACES: usize = 65_536;
+
+// What each product of a variable and a corner is.
+pub(crate) fn products_of(
+    alloc: Global,
+    variables: u32,
+    corners: &[Mono],
+    border: &[Mono],
+) -> Result<List<Product>, NoMemory>
+    requires { variables ≤ 6 }
+    ensures count { IfOk result (λ products. length products ≡ variables * length corners.now) }
+    ensures each { IfOk result (AreFirstProducts corners.now border.now) }
+{
+    let mut products = List::new(alloc);
+    for v in 0..variables {
+        push_products(v, corners, border, &mut products)?;
+    }
+    Ok(products)
+}
+
+// Appends the products of the variable `v` with the corners.
+fn push_products(
+    v: u32,
+    corners: &[Mono],
+    border: &[Mono],
+    products: &mut List<Product>,
+) -> Result<(), NoMemory>
+    requires v { v < 6 }
+    requires count { length products.old ≡ v * length corners.now }
+    requires each { AreFirstProducts corners.now border.now products.old }
+    ensures count { OnOk result (length products.new ≡ (v + 1) * length corners.now) }
+    ensures each { OnOk result (AreFirstProducts corners.now border.now products.new) }
+{
+    for i in 0..corners.len() {
+        let m = multiple(&corners[i], v)?;
+        let product = product_of(corners, border, &m)?;
+        products.push(product)?;
+    }
+    Ok(())
+}
+
+// The corner or the monomial of the border that the monomial is.
+fn product_of(corners: &[Mono], border: &[Mono], m: &Mono) -> Result<Product, NoMemory>
+    ensures { IfOk result (IsFoundIn corners.now border.now m.now) }
+{
+    if let Some(i) = find(corners, m) {
+        if i < MOST_PLACES {
+            return Ok(Product::Corner(i as u32));
+        }
+    }
+    match find(border, m) {
+        Some(j) => {
+            if j < MOST_PLACES {
+                Ok(Product::Border(j as u32))
+            } else {
+                Err(not_found())
+            }
+        }
+        None => Err(not_found()),
+    }
+}
+
+// The place of the monomial outside the corners, within the border if that is asked.
+fn outside_place(play: &Play, inside: bool, m: &Mono) -> Option<Place>
+    ensures { IfSome result (λ place. IsPlaceIn play.now.corners play.now.border play.now.outer place × (m.now ≡ monomial_in play.now.corners play.now.border play.now.outer place)) }
+{
+    if let Some(j) = find(play.border.as_slice(), m) {
+        return Some(Place::Border(j));
+    }
+    if inside {
+        return None;
+    }
+    match find(play.outer.as_slice(), m) {
+        Some(j) => Some(Place::Outer(j)),
+        None => None,
+    }
+}
+
+// The place of the monomial.
+fn place_of(play: &Play, m: &Mono) -> Option<Place>
+    ensures { IfSome result (λ place. IsPlaceIn play.now.corners play.now.border play.now.outer place × (m.now ≡ monomial_in play.now.corners play.now.border play.now.outer place)) }
+{
+    match find(play.corners.as_slice(), m) {
+        Some(i) => Some(Place::Corner(i)),
+        None => outside_place(play, false, m),
+    }
+}
+
+// The terms of the polynomial by their places.
+fn shares_of(alloc: Global, play: &Play, f: &Poly) -> Result<List<Share>, NoMemory>
+    ensures shares { IfOk result (AreSharesIn f.now.prime play.now.corners play.now.border play.now.outer) }
+    ensures terms { IfOk result (λ shares. terms_in play.now.corners play.now.border play.now.outer shares ≡ f.now.terms) }
+{
+    let terms = f.terms();
+    let mut shares = List::new(alloc);
+    for i in 0..terms.len() {
+        let term = terms[i];
+        match place_of(play, &term.mono) {
+            Some(place) => shares.push(Share {
+                coeff: term.coeff,
+                place,
+            })?,
+            None => return Err(not_found()),
+        }
+    }
+    Ok(shares)
+}
+
+// The rule of a lead: with the lift u of the polynomial g of the basis, m is m - g + u d modulo the ideal.
+fn lead_rule(
+    alloc: Global,
+    lifted: &Lifted,
+    play: &Play,
+    m: &Mono,
+    g: &Poly,
+) -> Result<Rule, NoMemory>
+    requires known { IsLifted lifted.now }
+    requires m { IsAffine lifted.now.variables m.now }
+    requires over { IsOver lifted.now.prime lifted.now.variables g.now }
+    requires low { degree_of g.now.terms ≤ 1000 }
+    ensures { IfOk result (IsRuleIn (curve_of_lifted lifted.now) play.now.corners play.now.border play.now.outer m.now) }
+{
+    let prime = g.prime();
+    let _p = prime.get();
+    let term = Term {
+        coeff: 1,
+        mono: *m,
+    };
+    let lead = Poly::from_term(alloc, prime, term)?;
+    let tail = lead.sub(g)?;
+    match lifted.lift(alloc, g)? {
+        Some(lift) => {
+            let tail_shares = shares_of(alloc, play, &tail)?;
+            let lift_shares = shares_of(alloc, play, &lift)?;
+            Ok(Rule::Lead(tail_shares, lift_shares))
+        }
+        None => Err(not_found()),
+    }
+}
+
+// The number of the polynomial with the lead `m`.
+fn with_lead(basis: &[Poly], m: &Mono) -> Option<usize>
+    ensures { IfSome result (λ i. i < length basis.now) }
+{
+    for i in 0..basis.len() {
+        if let Some(t) = basis[i].lead() {
+            if Mono::cmp_dp(&t.mono, m) == Ordering::Equal {
+                return Some(i);
+            }
+        }
+    }
+    None
+}
+
+// The rule by the variable, if the quotient has a place outside the corners.
+fn rule_by(play: &Play, inside: bool, m: &Mono, v: u32) -> Option<Rule>
+    requires { v < 6 }
+    ensures { IfSome result (λ rule. (place : Place) × (rule ≡ Multiple v place) × IsPlaceIn play.now.corners play.now.border play.now.outer place × (times (monomial_in play.now.corners play.now.border play.now.outer place) (variable v) ≡ m.now)) }
+{
+    match quotient(m, v) {
+        None => None,
+        Some(w) => match outside_place(play, inside, &w) {
+            None => None,
+            Some(place) => Some(Rule::Multiple(v, place)),
+        },
+    }
+}
+
+// The rule by the first variable of the list whose quotient has a place outside the corners.
+fn multiple_rule(
+    lifted: &Lifted,
+    play: &Play,
+    inside: bool,
+    m: &Mono,
+) -> Result<Rule, NoMemory>
+    requires { lifted.now.variables ≤ 6 }
+    ensures { IfOk result (IsRuleIn (curve_of_lifted lifted.now) play.now.corners play.now.border play.now.outer m.now) }
+{
+    let variables = lifted.variables();
+    for v in &play.order {
+        if *v < variables {
+            if let Some(rule) = rule_by(play, inside, m, *v) {
+                return Ok(rule);
+            }
+        }
+    }
+    Err(not_found())
+}
+
+// The rule of the monomial: a lead has that of its polynomial in the basis, and another one comes from a quotient by a variable.
+fn rule_of(
+    alloc: Global,
+    lifted: &Lifted,
+    play: &Play,
+    inside: bool,
+    m: &Mono,
+) -> Result<Rule, NoMemory>
+    requires { IsAffine lifted.now.variables m.now }
+    ensures { IfOk result (IsRuleIn (curve_of_lifted lifted.now) play.now.corners play.now.border play.now.outer m.now) }
+{
+    let basis = lifted.sum_basis();
+    match with_lead(basis, m) {
+        Some(i) => lead_rule(alloc, lifted, play, m, &basis[i]),
+        None => multiple_rule(lifted, play, inside, m),
+    }
+}
+
+// The rules of the monomials.
+pub(crate) fn rules_of(
+    alloc: Global,
+    lifted: &Lifted,
+    play: &Play,
+    inside: bool,
+    monomials: &[Mono],
+) -> Result<List<Rule>, NoMemory>
+    requires { All (IsAffine lifted.now.variables) monomials.now }
+    ensures { IfOk result (AreRulesIn (curve_of_lifted lifted.now) play.now.corners play.now.border play.now.outer monomials.now) }
+{
+    let mut rules = List::new(alloc);
+    for i in 0..monomials.len() {
+        let rule = rule_of(alloc, lifted, play, inside, &monomials[i])?;
+        rules.push(rule)?;
+    }
+    Ok(rules)
+}

@@ -1,0 +1,14 @@
+//! Polynomials modulo an ideal and a power of the denominator, as rows of digits.
+//!
+//! The corners of a curve, the monomials that are no lead modulo the ideal and the denominator d, are a basis modulo d. Modulo
+//! d^T a class has T blocks of one residue for each corner, block t times d^t (Greuel and Pfister, sections on standard bases
+//! and on normal forms).
+#![tactic(auto)]
+
+mod digits;
+mod dividing;
+mod multiplying;
+mod products;
+
+pub use digits::Digits;
+pub use products::{OuterRow, Product};
