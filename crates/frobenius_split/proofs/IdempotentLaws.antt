@@ -15,7 +15,7 @@ use Rattle.finite_algebra.proofs.Products.{reduced, reduced_fits, times_fits}
 use Rattle.frobenius_laws.proofs.Ideals.{InOrInverse, is_radical}
 use Rattle.frobenius_split.specs.Points.{AreMaximalIdeals, IsMaximalIdeal, IsNilpotent, IsRadicalOf, at}
 use Rattle.frobenius_split.specs.Parts.{AreParts, ArePulledApart, HasValue, IsPart, IsWithin, number_of}
-use Rattle.frobenius_split.specs.Idempotents.{AreIdempotents, AreIdempotentsIn, AreOrthogonal, IsIdealAt, IsNumberAt, sum_of}
+use Rattle.frobenius_split.specs.Idempotents.{AreIdempotents, AreIdempotentsIn, AreIdempotentsOf, AreOrthogonal, IsIdealAt, IsNumberAt, sum_of}
 use Rattle.frobenius_split.proofs.AllMaximal.{maximal_inverse, maximal_proper}
 use Rattle.frobenius_split.proofs.Ground as Ground
 
@@ -263,6 +263,37 @@ module _ (A : FiniteAlgebra) (prime : IsPrime A.prime) (a : IsAlgebra A) where
 
       squared : (i : ℕ) → i < length es → get_or es i [] ⊗ get_or es i [] ≈ get_or es i []
       squared i l = own_square A.one es w i l
+
+  less_one_ring : (e : List ℕ) → e ⊗ e ≈ e → (e ⊕ neg 𝟙) ⊗ e ≈ 𝟘
+  less_one_ring e h = ring_by R (e ∷ []) (fact 𝟙 _ _ h ∷ []) (search quote depth 20) tt
+
+  -- and the idempotents are those of these ideals
+  pub idempotents_of : (nilpotent : Subspace) → IsRadicalOf A nilpotent → (es : List (List ℕ)) → AreIdempotents A es → (spaces : List Subspace) → length spaces ≡ length es
+      → ((i : ℕ) → i < length es → IsIdealAt A nilpotent (get_or es i []) (at spaces i)) → AreIdempotentsOf A spaces es
+  idempotents_of nilpotent rad es w spaces count each = record {
+    count = sym count;
+    idempotents = w;
+    square = own_square A.one es w;
+    own = λ i l. Ground.differ_outward A prime a (at spaces i) (ideal nilpotent rad (get_or es i []) (own_square A.one es w i l) (w.nonzero i [] l) (at spaces i) (each i l)) (get_or es i []) 𝟙
+        (into nilpotent rad (get_or es i []) (own_square A.one es w i l) (w.nonzero i [] l) (at spaces i) (each i l) _
+        (of_nil nilpotent rad (get_or es i []) (own_square A.one es w i l) (w.nonzero i [] l) (at spaces i) (each i l) _ (nil_zero _ (less_one_ring (get_or es i []) (own_square A.one es w i l)))));
+    others = λ i j l k n. of_nil nilpotent rad (get_or es j []) (own_square A.one es w j k) (w.nonzero j [] k) (at spaces j) (each j k) (get_or es i []) (nil_zero _ (orthogonal_at es w.orthogonal i j l k n));
+    members = λ i l x fits. (
+      λ h. (rad.members (x ⊗ get_or es i []) (times_fits A pos x (get_or es i []))).0 (((each i l).members x fits).0 h),
+      λ h. ((each i l).members x fits).1 ((rad.members (x ⊗ get_or es i []) (times_fits A pos x (get_or es i []))).1 h),
+    );
+  }
+
+  -- an algebra of dimension 0 has none
+  pub no_idempotents : A.dimension ≡ 0 → AreIdempotentsOf A [] []
+  no_idempotents e = record {
+    count = refl;
+    idempotents = record { rows = All-nil (IsElement A); nonzero = All-nil (λ f. ¬ (IsZero A.prime A.dimension f)); inside = All-nil (λ f. 𝟙 ⊗ f ≈ f); orthogonal = tt; sum = λ i l. absurd (omega arith) };
+    square = λ i l. absurd (let m : i < 0 = l in omega arith);
+    own = λ i l. absurd (let m : i < 0 = l in omega arith);
+    others = λ i j l. absurd (let m : i < 0 = l in omega arith);
+    members = λ i l. absurd (let m : i < 0 = l in omega arith);
+  }
 
   -- the nilpotent elements are an ideal
   pub radical_ideal : (nilpotent : Subspace) → IsRadicalOf A nilpotent → IsIdealOf A nilpotent

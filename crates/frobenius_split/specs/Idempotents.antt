@@ -1,9 +1,10 @@
 -- Idempotents that are orthogonal to each other, and what splits them.
-use Rattle.std.specs.Prelude.{◌≡◌, ◌↔◌, ℕ, ◌+◌, ◌-◌, ◌*◌, ◌%◌, ◌<◌, List, [], ◌∷◌, length, slice_index, slice_index_or}
+use Rattle.std.specs.Prelude.{◌≡◌, ◌≢◌, ◌↔◌, ℕ, ◌+◌, ◌-◌, ◌*◌, ◌%◌, ◌<◌, List, [], ◌∷◌, length, slice_index, slice_index_or}
 use Rattle.std.specs.List.{All}
 use Rattle.comm_ring.specs.Ring.{pow}
-use Rattle.row_space.specs.Subspace.{Subspace, IsIn, IsZero}
+use Rattle.row_space.specs.Subspace.{Subspace, IsIn, IsZero, DifferIn}
 use Rattle.finite_algebra.specs.Elements.{FiniteAlgebra, IsElement, elements, ring_of, times}
+use Rattle.frobenius_split.specs.Points.{IsNilpotent, at}
 use Rattle.frobenius_split.specs.Parts.{less_number}
 
 -- the members added up
@@ -63,3 +64,12 @@ pub record IsIdealAt (A : FiniteAlgebra) (nilpotent : Subspace) (e : List ℕ) (
   pub prime : space.prime ≡ A.prime
   pub width : space.width ≡ A.dimension
   pub members : (x : List ℕ) → IsElement A x → IsIn space x ↔ IsIn nilpotent (times A x e)
+
+-- idempotents, orthogonal to each other with the one as their sum, one beside each of the spaces: modulo its own space it is the one, and it lies in each of the others; a space holds exactly the elements whose product with its idempotent is nilpotent
+pub record AreIdempotentsOf (A : FiniteAlgebra) (spaces : List Subspace) (es : List (List ℕ)) : Type 0 where
+  pub count : length es ≡ length spaces
+  pub idempotents : AreIdempotents A es
+  pub square : (i : ℕ) → i < length es → (elements A).◌≋◌ (times A (slice_index_or es i []) (slice_index_or es i [])) (slice_index_or es i [])
+  pub own : (i : ℕ) → i < length es → DifferIn (at spaces i) (slice_index_or es i []) A.one
+  pub others : (i j : ℕ) → i < length es → j < length es → i ≢ j → IsIn (at spaces j) (slice_index_or es i [])
+  pub members : (i : ℕ) → i < length es → (x : List ℕ) → IsElement A x → IsIn (at spaces i) x ↔ IsNilpotent A (times A x (slice_index_or es i []))

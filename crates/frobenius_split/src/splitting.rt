@@ -1,6 +1,7 @@
 // The radical, and the maximal ideals.
 ghost use Rattle.std.specs.Prelude.{◌≡◌, ◌+◌, ◌<◌, length, map, All, IfOk};
 ghost use Rattle.frobenius_split.specs.Points.{IsRadicalOf, IsMaximalIdeal, AreMaximalIdeals};
+ghost use Rattle.frobenius_split.specs.Idempotents.{AreIdempotentsOf};
 
 use super::frobenius::{fixed_elements, nilpotent_elements};
 use super::graph::powers;
@@ -30,7 +31,7 @@ pub fn radical(a: &Algebra) -> Result<Space, NoMemory>
 }
 
 // An ideal with the dimension modulo it.
-fn point_of(a: &Algebra, space: Space) -> SplitPoint
+pub(crate) fn point_of(a: &Algebra, space: Space) -> SplitPoint
     requires { IsMaximalIdeal a.now space }
     ensures space { result.space ≡ space }
     ensures degree { result.degree + length space.basis ≡ a.now.dimension }
@@ -41,11 +42,15 @@ fn point_of(a: &Algebra, space: Space) -> SplitPoint
     SplitPoint { space, degree }
 }
 
-// The maximal ideals, where the dimension is not 0: those at the idempotents that the fixed elements
-// split no further.
-fn maximal_ideals(alloc: Global, a: &Algebra) -> Result<List<Space>, NoMemory>
+// The maximal ideals, where the dimension is not 0, and the idempotents that the fixed elements split no
+// further: the ideals are those at them.
+pub(crate) fn maximal_ideals(
+    alloc: Global,
+    a: &Algebra,
+) -> Result<(List<Space>, List<List<u32>>), NoMemory>
     requires { 0 < a.now.dimension }
-    ensures { IfOk result (λ ideals. AreMaximalIdeals a.now ideals) }
+    ensures ideals { IfOk result (λ made. AreMaximalIdeals a.now made.0) }
+    ensures idempotents { IfOk result (λ made. AreIdempotentsOf a.now made.0 made.1) }
 {
     parts_are_maximal();
     let _one = a.one();
@@ -55,7 +60,7 @@ fn maximal_ideals(alloc: Global, a: &Algebra) -> Result<List<Space>, NoMemory>
     let fixed = fixed_elements(alloc, a, matrix.as_slice())?;
     let es = idempotents(alloc, a, fixed.rows())?;
     let ideals = ideals_at(alloc, a, &nilpotent, es.as_slice())?;
-    Ok(ideals)
+    Ok((ideals, es))
 }
 
 /// The maximal ideals, each once, with the dimensions modulo them. An algebra of dimension 0 has none.
@@ -74,7 +79,7 @@ pub fn points(a: &Algebra) -> Result<List<SplitPoint>, NoMemory>
     if a.dimension() == 0 {
         return Ok(found);
     }
-    let ideals = maximal_ideals(alloc, a)?;
+    let (ideals, _es) = maximal_ideals(alloc, a)?;
     for space in ideals.into_vec() {
         found.push(point_of(a, space))?;
     }
