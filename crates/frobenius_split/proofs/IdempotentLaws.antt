@@ -284,17 +284,6 @@ module _ (A : FiniteAlgebra) (prime : IsPrime A.prime) (a : IsAlgebra A) where
     );
   }
 
-  -- an algebra of dimension 0 has none
-  pub no_idempotents : A.dimension ≡ 0 → AreIdempotentsOf A [] []
-  no_idempotents e = record {
-    count = refl;
-    idempotents = record { rows = All-nil (IsElement A); nonzero = All-nil (λ f. ¬ (IsZero A.prime A.dimension f)); inside = All-nil (λ f. 𝟙 ⊗ f ≈ f); orthogonal = tt; sum = λ i l. absurd (omega arith) };
-    square = λ i l. absurd (let m : i < 0 = l in omega arith);
-    own = λ i l. absurd (let m : i < 0 = l in omega arith);
-    others = λ i j l. absurd (let m : i < 0 = l in omega arith);
-    members = λ i l. absurd (let m : i < 0 = l in omega arith);
-  }
-
   -- the nilpotent elements are an ideal
   pub radical_ideal : (nilpotent : Subspace) → IsRadicalOf A nilpotent → IsIdealOf A nilpotent
   radical_ideal nilpotent rad = record { prime = rad.prime; width = rad.width; absorbs = λ x f h k l. (rad.members (x ⊗ f) (times_fits A pos x f)).1 (nil_times x f ((rad.members f k).0 l)) }
