@@ -1,66 +1,34 @@
--- The kernel of a multiplication and a projection is the ideal at an element.
-use Rattle.std.proofs.Common.{◌≡◌, ◌∙◌, ◌<◌, ◌↔◌, [], ℕ, List, All, length, get_or, map, arith}
-use Rattle.std.proofs.lemmas.List.{get_or-map, length-map}
-use Rattle.std.proofs.lemmas.List.Elements.{All-from_get_or, All-map}
-use Rattle.comm_ring.proofs.Modules.{Module}
+-- What a multiplication takes to the nilpotent elements is the ideal at an element.
+use Rattle.std.proofs.Common.{◌≡◌, ◌↔◌, ◌<◌, ◌∙◌, ℕ, List, length, ap, subst, sym}
+use Rattle.comm_ring.specs.Modules.{InSpan}
 use Rattle.comm_ring.proofs.Residues.{residues}
-use Rattle.comm_ring.proofs.Rows.{row_module}
-use Rattle.row_space.specs.Echelon.{IsRow}
-use Rattle.row_space.specs.Subspace.{Subspace, IsIn, IsZero, product}
-use Rattle.finite_algebra.specs.Elements.{FiniteAlgebra, AreProducts, times, unit_row}
-use Rattle.finite_algebra.specs.Projections.{IsProjection}
-use Rattle.finite_algebra.proofs.Images.{product-along, product_linear}
+use Rattle.comm_ring.proofs.Modules as Modules
+use Rattle.row_space.specs.Subspace.{Subspace, IsIn, product}
+use Rattle.finite_algebra.specs.Elements.{FiniteAlgebra, AreProducts, elements, times}
+use Rattle.finite_algebra.proofs.Generated.{moved}
 use Rattle.finite_algebra.proofs.Multiplication.{product-times}
 use Rattle.finite_algebra.proofs.Products.{module_of}
-use Rattle.finite_algebra.proofs.Summing.{combination_fits}
-use Rattle.finite_algebra.proofs.Totals.{linear_then, of_path}
-use Rattle.finite_algebra.proofs.Units.{agree, along-unit}
 use Rattle.frobenius_split.specs.Idempotents.{IsIdealAt}
 
-module _ (A : FiniteAlgebra) (pos : 0 < A.prime) (nilpotent : Subspace) (m : ℕ) (matrix : List (List ℕ)) (q : IsProjection A nilpotent m matrix) (e : List ℕ) (table : List (List ℕ)) (products : AreProducts A e table) where
-  abbrev p : ℕ
-  p = A.prime
+-- membership in an image does not depend on how its parts are written
+pub image_moved : (s : Subspace) (p q w n : ℕ) (v : List ℕ) (us vs : List (List ℕ)) → p ≡ q → w ≡ n → us ≡ vs → IsIn s (product p w v us) → IsIn s (product q n v vs)
+image_moved s p q w n v us vs e f g h = subst (λ c. IsIn s (product c n v vs)) e (subst (λ c. IsIn s (product p c v vs)) f (subst (λ c. IsIn s (product p w v c)) g h))
 
-  abbrev n : ℕ
-  n = A.dimension
+module _ (A : FiniteAlgebra) (pos : 0 < A.prime) (nilpotent : Subspace) (prime : nilpotent.prime ≡ A.prime) (width : nilpotent.width ≡ A.dimension) (e : List ℕ) (table : List (List ℕ)) (products : AreProducts A e table) where
+  same_row : (f g : List ℕ) → (elements A).◌≋◌ f g → IsIn nilpotent f → IsIn nilpotent g
+  same_row f g h i = moved A.prime nilpotent.prime A.dimension nilpotent.width nilpotent.basis g (sym prime) (sym width)
+      ((Modules.span_submodule (residues A.prime pos) (module_of A pos) nilpotent.basis).resp f g h (moved nilpotent.prime A.prime nilpotent.width A.dimension nilpotent.basis f prime width i))
 
-  abbrev W : Module (residues A.prime pos)
-  W = row_module A.prime pos m
-
-  abbrev M : Module (residues A.prime pos)
-  M = module_of A pos
-
-  abbrev images : List (List ℕ)
-  images = map (λ row. product A.prime m row matrix) table
-
-  long : length images ≡ A.dimension
-  long = length-map table (λ row. product A.prime m row matrix) ∙ products.count
-
-  pub images_fit : All (IsRow A.prime m) images
-  images_fit = All-map (IsRow A.prime m) (λ row. product A.prime m row matrix) table (All-from_get_or (λ row. IsRow A.prime m (product A.prime m row matrix)) table [] (λ k l. combination_fits A.prime m pos (get_or table k []) matrix))
-
-  -- a row of a matrix by the unit row
-  row_of_unit : (w : ℕ) (us : List (List ℕ)) → length us ≡ A.dimension → (k : ℕ) → k < A.dimension → (row_module A.prime pos w).◌≋◌ (product A.prime w (unit_row A.dimension k) us) (get_or us k [])
-  row_of_unit w us l k h = (row_module A.prime pos w).trans (product-along A.prime pos A.dimension w us l (unit_row A.dimension k)) (along-unit A.prime pos A.dimension (row_module A.prime pos w) (λ j. get_or us j []) k h)
-
-  composed : (v : List ℕ) → W.◌≋◌ (product A.prime m v images) (product A.prime m (product A.prime n v table) matrix)
-  composed v = agree A.prime pos A.dimension W (λ u. product A.prime m u images) (λ u. product A.prime m (product A.prime n u table) matrix)
-      (product_linear A.prime pos A.dimension m images long)
-      (linear_then (residues A.prime pos) M M W (λ u. product A.prime n u table) (λ u. product A.prime m u matrix) (product_linear A.prime pos A.dimension A.dimension table products.count) (product_linear A.prime pos A.dimension m matrix q.count))
-      (λ k h. W.trans (row_of_unit m images long k h)
-      (W.trans (of_path (residues A.prime pos) W (get_or-map (λ row. product A.prime m row matrix) table k [] [] (omega (arith, products.count))))
-      ((product_linear A.prime pos A.dimension m matrix q.count).resp _ _ (M.symm (row_of_unit A.dimension table products.count k h)))))
-      v
-
-  to_product : (v : List ℕ) → W.◌≋◌ (product A.prime m v images) (product A.prime m (times A v e) matrix)
-  to_product v = W.trans (composed v) ((product_linear A.prime pos A.dimension m matrix q.count).resp _ _ (product-times A pos e table products v))
-
-  pub kernel_is : (s : Subspace) → s.prime ≡ A.prime → s.width ≡ A.dimension → ((v : List ℕ) → length v ≡ A.dimension → IsIn s v ↔ IsZero A.prime m (product A.prime m v images)) → IsIdealAt A nilpotent e s
-  kernel_is s prime width members = record {
-    prime = prime;
-    width = width;
-    members = λ x fits. (
-      λ h. (q.kernel (times A x e)).0 (W.trans (W.symm (to_product x)) ((members x fits.0).0 h)),
-      λ h. (members x fits.0).1 (W.trans (to_product x) ((q.kernel (times A x e)).1 h)),
-    );
+  pub preimage_is : (s : Subspace) (us : List (List ℕ)) → us ≡ table → s.prime ≡ nilpotent.prime → s.width ≡ length us
+      → ((v : List ℕ) → length v ≡ length us → IsIn s v ↔ IsIn nilpotent (product nilpotent.prime nilpotent.width v us)) → IsIdealAt A nilpotent e s
+  preimage_is s us same p w members = record {
+    prime = p ∙ prime;
+    width = w ∙ (ap length same ∙ products.count);
+    members = λ x fits.
+        let long = fits.0 ∙ sym (ap length same ∙ products.count) in
+        (
+          λ h. same_row _ _ (product-times A pos e table products x) (image_moved nilpotent nilpotent.prime A.prime nilpotent.width A.dimension x us table prime width same ((members x long).0 h)),
+          λ h. (members x long).1 (image_moved nilpotent A.prime nilpotent.prime A.dimension nilpotent.width x table us (sym prime) (sym width) (sym same)
+              (same_row _ _ ((module_of A pos).symm (product-times A pos e table products x)) h)),
+        );
   }

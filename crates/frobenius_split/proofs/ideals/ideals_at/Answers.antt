@@ -11,24 +11,6 @@ use Rattle.frobenius_split.proofs.IdempotentLaws.{radical_ideal}
 use Rattle.frobenius_split.proofs.Stages.{at_most}
 use Rattle.frobenius_split.proofs.ideals.ideals_at.Goals as goal
 
-pub projection-requires : goal.projection-requires
-projection-requires c = radical_ideal c.args.a.now (subst IsPrime (c.get-p.ensures.value ∙ c.prime.ensures) c.get-p.ensures.prime) c.one-one.ensures.laws c.args.nilpotent.now c.requires.nilpotent
-
-pub overflow_sub-columns : goal.overflow_sub-columns
-overflow_sub-columns c =
-    let s = c.args.nilpotent.now in
-    let few : length c.args.nilpotent.now.basis ≤ c.args.a.now.dimension = at_most c.args.a.now (subst IsPrime (c.get-p.ensures.value ∙ c.prime.ensures) c.get-p.ensures.prime) c.one-one.ensures.laws s c.requires.nilpotent.prime c.requires.nilpotent.width
-    (subst (DimensionOf (all_rows s) (IsIn s)) c.dimension-2.ensures.rows c.dimension-2.ensures.dimension) in
-    omega (arith, few, c.dimension.ensures, c.dimension-2.ensures.rows)
-
-pub ideal_at-requires-clause-projection : goal.ideal_at-requires-clause-projection
-ideal_at-requires-clause-projection c =
-    let s = c.args.nilpotent.now in
-    let few : length c.args.nilpotent.now.basis ≤ c.args.a.now.dimension = at_most c.args.a.now (subst IsPrime (c.get-p.ensures.value ∙ c.prime.ensures) c.get-p.ensures.prime) c.one-one.ensures.laws s c.requires.nilpotent.prime c.requires.nilpotent.width
-    (subst (DimensionOf (all_rows s) (IsIn s)) c.dimension-2.ensures.rows c.dimension-2.ensures.dimension) in
-    let whole : (c.dimension.result - c.dimension-2.result) + length c.args.nilpotent.now.basis ≡ c.args.a.now.dimension = omega (arith, few, c.dimension.ensures, c.dimension-2.ensures.rows) in
-    subst (IsProjection c.args.a.now s (c.dimension.result - c.dimension-2.result)) (sym c.as_slice.ensures) (c.in_ok-projection.ensures (c.dimension.result - c.dimension-2.result) whole)
-
 pub loop-i-preserved : goal.loop-i-preserved
 loop-i-preserved c = record {
   count = ap length c.in_ok-push.ensures.ok ∙ (length-append c.loop-i.spaces (c.in_ok-space.space ∷ []) ∙ ap (λ k. k + 1) c.loop-i.invariant.count);
@@ -40,7 +22,7 @@ loop-i-preserved c = record {
 
     go : (c : goal.In_ok-push) → (j : ℕ) → j < c.loop-i.i + 1 → Dec (j ≡ c.loop-i.i) → IsIdealAt c.args.a.now c.args.nilpotent.now (get_or c.args.es.now j []) (at (c.loop-i.spaces ++ c.in_ok-space.space ∷ []) j)
     go c j l (yes e) =
-        let row_is = c.as_slice-in-loop-i.ensures ∙ c.index-es-i.is ∙ get_or_default c.args.es.now c.loop-i.i c.index-es-i.result [] c.loop-i-test.true in
+        let row_is = c.as_slice.ensures ∙ c.index-es-i.is ∙ get_or_default c.args.es.now c.loop-i.i c.index-es-i.result [] c.loop-i-test.true in
         subst (λ s. IsIdealAt c.args.a.now c.args.nilpotent.now (get_or c.args.es.now j []) s) (sym (get_or_push c.loop-i.spaces c.in_ok-space.space none j (c.loop-i.invariant.count ∙ sym e)))
         (subst (λ k. IsIdealAt c.args.a.now c.args.nilpotent.now (get_or c.args.es.now k []) c.in_ok-space.space) (sym e) (subst (λ (r : List ℕ). IsIdealAt c.args.a.now c.args.nilpotent.now r c.in_ok-space.space) row_is c.in_ok-space.ensures))
     go c j l (no n) = subst (λ s. IsIdealAt c.args.a.now c.args.nilpotent.now (get_or c.args.es.now j []) s) (sym (get_or_append_left c.loop-i.spaces (c.in_ok-space.space ∷ []) none j (omega (arith, c.loop-i.invariant.count))))
