@@ -1,11 +1,12 @@
 pub mod Ground
 pub mod Deciding
 pub mod Adding
+pub mod Spans
 pub mod GraphLaws
 pub mod Stages
 pub mod SplitLaws
-pub mod EachLaws
-pub mod PartLaws
 pub mod AllMaximal
+pub mod IdempotentLaws
+pub mod IdealLaws
 pub mod Relations
 pub mod Worked

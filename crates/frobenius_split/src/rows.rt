@@ -1,14 +1,13 @@
 // Rows of elements: copies, units, multiples and the rows that a space gains.
-ghost use Rattle.std.specs.Prelude.{◌≡◌, ℕ, ◌+◌, ◌-◌, ◌%◌, ◌<◌, length, replicate, slice_index, slice_set, All, IfOk, OnOk};
+ghost use Rattle.std.specs.Prelude.{◌≡◌, ◌+◌, ◌-◌, ◌%◌, ◌<◌, [], ◌∷◌, length, replicate, slice_index, slice_set, All, IfOk};
 ghost use Rattle.row_space.specs.Echelon.{IsRow};
-ghost use Rattle.row_space.specs.Subspace.{FitsIn};
 ghost use Rattle.lane_rows.specs.Rows.{AreResidues};
 ghost use Rattle.finite_algebra.specs.Elements.{unit_row as the_unit_row};
-ghost use Rattle.frobenius_split.specs.Parts.{AreLess, Adds};
+ghost use Rattle.frobenius_split.specs.Parts.{AreLess, IsLess, IsScaled};
 
+use lane_rows::{axpy, scale};
 use lists::{List, NoMemory};
 use prime_field::Prime;
-use row_space::Space;
 use std::alloc::Global;
 
 pub(crate) fn copy_of(alloc: Global, row: &[u32]) -> Result<Vec<u32>, NoMemory>
@@ -73,15 +72,45 @@ pub(crate) fn less_scalar(
     Ok(rows)
 }
 
-// Adds the rows to the space.
-pub(crate) fn add_rows(prime: Prime, space: &mut Space, rows: &[List<u32>]) -> Result<(), NoMemory>
-    requires prime { space.old.prime ≡ prime }
-    requires fit { All (FitsIn space.old) rows.now }
-    ensures { OnOk result (Adds space.old rows.now space.new) }
+// The list with the one row.
+pub(crate) fn single(alloc: Global, row: &[u32]) -> Result<List<List<u32>>, NoMemory>
+    ensures { IfOk result (λ rows. rows ≡ row.now ∷ []) }
 {
-    let _p = prime.get();
-    for i in 0..rows.len() {
-        let _said = space.insert(rows[i].as_slice())?;
-    }
-    Ok(())
+    let mut rows = List::new(alloc);
+    rows.push(List::of_vec(copy_of(alloc, row)?))?;
+    Ok(rows)
+}
+
+// The row times c.
+pub(crate) fn scaled(
+    alloc: Global,
+    prime: Prime,
+    c: u32,
+    row: &[u32],
+) -> Result<List<u32>, NoMemory>
+    requires c { c < prime }
+    requires row { AreResidues prime row.now }
+    ensures { IfOk result (λ made. IsScaled prime (length row.now) c row.now made) }
+{
+    let mut made = copy_of(alloc, row)?;
+    scale(prime.get(), c, made.as_mut_slice());
+    Ok(List::of_vec(made))
+}
+
+// The row without c times the other.
+pub(crate) fn less_multiple(
+    alloc: Global,
+    prime: Prime,
+    row: &[u32],
+    c: u32,
+    other: &[u32],
+) -> Result<List<u32>, NoMemory>
+    requires c { c < prime }
+    requires row { AreResidues prime row.now }
+    requires other { IsRow prime (length row.now) other.now }
+    ensures { IfOk result (λ made. IsLess prime (length row.now) row.now c other.now made) }
+{
+    let mut made = copy_of(alloc, row)?;
+    axpy(prime.get(), prime.neg(c), other, made.as_mut_slice());
+    Ok(List::of_vec(made))
 }

@@ -2,7 +2,7 @@
 ghost use Rattle.std.specs.Prelude.{◌≡◌, IfOk};
 ghost use Rattle.finite_algebra.specs.Elements.{IsAlgebra};
 
-use super::{points, radical};
+use super::{LocalPoint, local_points, points, radical};
 use finite_algebra::Algebra;
 use lists::{List, NoMemory};
 use prime_field::Prime;
@@ -257,5 +257,41 @@ fn radicals_and_points_are_found(rt: HostRuntime) -> Result<(), Fail> {
     check(&rt, four_points(&rt, alloc)?, 0, 4, 1)?;
     check(&rt, eight_points(&rt, alloc)?, 0, 8, 1)?;
     check(&rt, zero_algebra(&rt, alloc)?, 0, 0, 0)?;
+    Ok(())
+}
+
+fn has_rows<const G: usize>(rows: &[List<u32>], expected: &[[u32; G]]) -> bool {
+    rows.len() == expected.len()
+        && rows
+            .iter()
+            .zip(expected)
+            .all(|(row, wanted)| row.as_slice() == wanted.as_slice())
+}
+
+// Some point has this idempotent, the degree G and these values of the basis.
+fn is_there<const G: usize>(found: &[LocalPoint], e: &[u32], values: &[[u32; G]]) -> bool {
+    found.iter().any(|local| {
+        local.idempotent.as_slice() == e
+            && local.point.degree as usize == G
+            && has_rows(local.values.as_slice(), values)
+    })
+}
+
+// Modulo x^3 - x the idempotents are 1 - x^2, (x^2 + x)/2 and (x^2 - x)/2.
+#[test]
+fn idempotents_and_values_are_found(rt: HostRuntime) -> Result<(), Fail> {
+    let alloc = rt.alloc();
+    let three = local_points(&three_points(&rt, alloc)?)?;
+    assert_eq!(rt; three.len(), 3);
+    assert!(rt; is_there(three.as_slice(), &[1, 0, 6], &[[1], [0], [0]]));
+    assert!(rt; is_there(three.as_slice(), &[0, 4, 4], &[[1], [1], [1]]));
+    assert!(rt; is_there(three.as_slice(), &[0, 3, 4], &[[1], [6], [1]]));
+    let dual = local_points(&dual_numbers(&rt, alloc)?)?;
+    assert_eq!(rt; dual.len(), 1);
+    assert!(rt; is_there(dual.as_slice(), &[1, 0], &[[1], [0]]));
+    let nine = local_points(&field_of_nine(&rt, alloc)?)?;
+    assert_eq!(rt; nine.len(), 1);
+    assert!(rt; is_there(nine.as_slice(), &[1, 0], &[[1, 0], [0, 1]]));
+    assert_eq!(rt; local_points(&zero_algebra(&rt, alloc)?)?.len(), 0);
     Ok(())
 }

@@ -13,7 +13,7 @@ pub point_of-requires : goal.point_of-requires
 point_of-requires c =
     let all = c.into_vec-space-items.result.items in
     let turn = YieldsList-turn (YieldsList-from_vec all (cc) (cc)) c.loop-space.yielded c.loop-space.space-iterator c.loop-space.yielded_by c.next.result c.next.new.self c.in-Some.space c.in-Some.is c.next.ensures.steps in
-    let ideals = subst (AreMaximalIdeals c.args.a.now) (sym c.into_vec-space-items.ensures) c.in_ok-ideals.ensures in
+    let ideals = subst (AreMaximalIdeals c.args.a.now) (sym c.into_vec-space-items.ensures) c.in_ok-ideals.ensures.ideals in
     subst (IsMaximalIdeal c.args.a.now) (sym (turn.1 ∙ get_or_default all (length c.loop-space.yielded) c.in-Some.space (record { prime = 0; width = 0; basis = [] }) turn.0))
     (ideals.each (length c.loop-space.yielded) turn.0)
 

@@ -1,0 +1,43 @@
+// The ideals at idempotents.
+ghost use Rattle.std.specs.Prelude.{◌≡◌, ℕ, ◌<◌, [], length, slice_index_or, All, IfOk};
+ghost use Rattle.finite_algebra.specs.Elements.{IsElement};
+ghost use Rattle.frobenius_split.specs.Points.{IsRadicalOf, at};
+ghost use Rattle.frobenius_split.specs.Idempotents.{IsIdealAt};
+
+use finite_algebra::Algebra;
+use lists::{List, NoMemory};
+use row_space::Space;
+use std::alloc::Global;
+
+// The elements whose product with e is nilpotent.
+fn ideal_at(a: &Algebra, nilpotent: &Space, e: &[u32]) -> Result<Space, NoMemory>
+    requires nilpotent { IsRadicalOf a.now nilpotent.now }
+    requires e { IsElement a.now e.now }
+    ensures { IfOk result (λ space. IsIdealAt a.now nilpotent.now e.now space) }
+{
+    let _one = a.one();
+    let _p = a.prime().get();
+    let table = a.multiplication(e)?;
+    let space = nilpotent.preimage(table.as_slice())?;
+    Ok(space)
+}
+
+/// For each of the elements the space of those whose product with it is nilpotent.
+pub(crate) fn ideals_at(
+    alloc: Global,
+    a: &Algebra,
+    nilpotent: &Space,
+    es: &[List<u32>],
+) -> Result<List<Space>, NoMemory>
+    requires nilpotent { IsRadicalOf a.now nilpotent.now }
+    requires es { All (IsElement a.now) es.now }
+    ensures count { IfOk result (λ spaces. length spaces ≡ length es.now) }
+    ensures spaces { IfOk result (λ spaces. (i : ℕ) → i < length es.now → IsIdealAt a.now nilpotent.now (slice_index_or es.now i []) (at spaces i)) }
+{
+    let mut spaces = List::new(alloc);
+    for i in 0..es.len() {
+        let space = ideal_at(a, nilpotent, es[i].as_slice())?;
+        spaces.push(space)?;
+    }
+    Ok(spaces)
+}
