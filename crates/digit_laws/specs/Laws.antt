@@ -26,13 +26,16 @@ pub record DigitsAreCoordinates (A : CurveData) (ms : List Monomial) (T : ℕ) :
   -- every row of residues has those of its value
   pub row : (row : List ℕ) → IsRow A.prime (length ms * T) row → IsPoly A.prime A.variables (value A ms T row) × AreDigits A ms T (value A ms T row) row
   -- what is equal modulo I and d^T has the same digits
-  pub same : (f g : List Term) (row : List ℕ) → IsPoly A.prime A.variables f → IsPoly A.prime A.variables g → InPower A T (sub A.prime f g) → AreDigits A ms T f row → AreDigits A ms T g row
+  pub same : (f g : List Term) (row : List ℕ) → IsPoly A.prime A.variables f → IsPoly A.prime A.variables g → InPower A T (sub A.prime f g)
+      → AreDigits A ms T f row → AreDigits A ms T g row
   -- and what has the same digits is equal modulo I and d^T
-  pub close : (f g : List Term) (row : List ℕ) → IsPoly A.prime A.variables f → IsPoly A.prime A.variables g → AreDigits A ms T f row → AreDigits A ms T g row → InPower A T (sub A.prime f g)
+  pub close : (f g : List Term) (row : List ℕ) → IsPoly A.prime A.variables f → IsPoly A.prime A.variables g → AreDigits A ms T f row
+      → AreDigits A ms T g row → InPower A T (sub A.prime f g)
   -- a polynomial has one row of digits
   pub unique : (f : List Term) (row other : List ℕ) → IsPoly A.prime A.variables f → AreDigits A ms T f row → AreDigits A ms T f other → row ≡ other
   -- digits of sums and multiples
-  pub sum : (f g : List Term) (row other : List ℕ) → IsPoly A.prime A.variables f → IsPoly A.prime A.variables g → AreDigits A ms T f row → AreDigits A ms T g other
+  pub sum : (f g : List Term) (row other : List ℕ) → IsPoly A.prime A.variables f → IsPoly A.prime A.variables g → AreDigits A ms T f row
+      → AreDigits A ms T g other
       → AreDigits A ms T (add A.prime f g) ((rows A.prime (length ms * T)).◌⊞◌ row other)
   -- a product may be worked with the value of a row in place of a polynomial with these digits
   pub product : (q f : List Term) (row out : List ℕ) → IsPoly A.prime A.variables q → IsPoly A.prime A.variables f → AreDigits A ms T f row
@@ -57,17 +60,21 @@ pub record SpaceIsIdeal (A : CurveData) (ms : List Monomial) (T : ℕ) (space : 
 
 abbrev pub SpacesAreIdeals : Type 0
 SpacesAreIdeals =
-    (A : CurveData) → IsFinite A → (ms : List Monomial) → AreCornersOf A ms → (T : ℕ) (space : Subspace) → All (FitsIn space) space.basis → IsIdealSpace A ms T space
+    (A : CurveData) → IsFinite A → (ms : List Monomial) → AreCornersOf A ms → (T : ℕ) (space : Subspace) → All (FitsIn space) space.basis
+    → IsIdealSpace A ms T space
     → SpaceIsIdeal A ms T space
 
 -- depths: the first blocks are the digits at a smaller depth, and a block of zeros in front is a factor d
 pub record BlocksAreDepths (A : CurveData) (ms : List Monomial) : Type 0 where
-  pub truncated : (T s : ℕ) (f : List Term) (row : List ℕ) → IsPoly A.prime A.variables f → AreDigits A ms (T + s) f row → AreDigits A ms T f (take (length ms * T) row)
+  pub truncated : (T s : ℕ) (f : List Term) (row : List ℕ) → IsPoly A.prime A.variables f → AreDigits A ms (T + s) f row
+      → AreDigits A ms T f (take (length ms * T) row)
   pub up : (T : ℕ) (f : List Term) (row : List ℕ) → IsPoly A.prime A.variables f
       → AreDigits A ms T f row ↔ AreDigits A ms (suc T) (mul A.prime A.denominator f) (replicate (length ms) 0 ++ row)
   -- a first block a and the digits of g are those of a sum of corners plus d g
-  pub append : (T : ℕ) (f g : List Term) (a b : List ℕ) → IsPoly A.prime A.variables f → IsPoly A.prime A.variables g → IsRow A.prime (length ms) a → AreDigits A ms T g b
-      → InPower A (suc T) (sub A.prime f (add A.prime (number_combination A.prime a (map polynomial_of ms)) (mul A.prime A.denominator g))) → AreDigits A ms (suc T) f (a ++ b)
+  pub append : (T : ℕ) (f g : List Term) (a b : List ℕ) → IsPoly A.prime A.variables f → IsPoly A.prime A.variables g → IsRow A.prime (length ms) a
+      → AreDigits A ms T g b
+      → InPower A (suc T) (sub A.prime f (add A.prime (number_combination A.prime a (map polynomial_of ms)) (mul A.prime A.denominator g)))
+      → AreDigits A ms (suc T) f (a ++ b)
 
 abbrev pub BlockLaws : Type 0
 BlockLaws = (A : CurveData) → IsFinite A → (ms : List Monomial) → AreCornersOf A ms → BlocksAreDepths A ms

@@ -69,7 +69,8 @@ same_tail x y xs ys e a h z c = go (contains_cases y z ys (h z (contains_tail x 
     go (inl q) = absurd (not_self x (subst (λ w. cmp_dp x w ≡ Less) (sym (e ∙ q)) (above_head x xs a z c)))
     go (inr k) = k
 
-same_rising : (xs ys : List Monomial) → AllPairs Rise xs → AllPairs Rise ys → ((z : Monomial) → Contains xs z → Contains ys z) → ((z : Monomial) → Contains ys z → Contains xs z)
+-- two rising lists with the same members are equal
+pub same_rising : (xs ys : List Monomial) → AllPairs Rise xs → AllPairs Rise ys → ((z : Monomial) → Contains xs z → Contains ys z) → ((z : Monomial) → Contains ys z → Contains xs z)
     → xs ≡ ys
 same_rising [] [] a b h k = refl
 same_rising [] (y ∷ ys) a b h k = absurd (contains_none y (k y (contains_head y ys)))

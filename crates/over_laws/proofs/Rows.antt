@@ -1,8 +1,7 @@
 -- Rows of digits as modules of fractions.
-use Rattle.std.proofs.Common.{◌↔◌, ◌*◌, ◌<◌, List, [], ◌∷◌, ◌++◌, map, length, All, sym, ap, ◌∙◌, subst}
-use Rattle.std.specs.List.{Contains}
+use Rattle.std.proofs.Common.{◌↔◌, ◌*◌, ◌<◌, List, [], ◌∷◌, map, length, All, sym, ap, ◌∙◌, subst}
 use Rattle.std.proofs.lemmas.List.{length-map}
-use Rattle.std.proofs.lemmas.List.Elements.{All-nil, All-cons, All-head, All-tail}
+use Rattle.std.proofs.lemmas.List.Elements.{All-nil, All-cons, All-head, All-tail, Contains-append_right}
 use Rattle.comm_ring.specs.Ring.{pow}
 use Rattle.comm_ring.specs.Residues.{residue_ops}
 use Rattle.comm_ring.specs.Rows.{rows}
@@ -14,7 +13,7 @@ use Rattle.polys.specs.Ideal.{InIdeal}
 use Rattle.polys.specs.Curve.{CurveData, data_of}
 use Rattle.polys.proofs.Affine.{poly_mul, positive}
 use Rattle.ideal_laws.proofs.Ideals.{in_poly, in_generator, in_mul}
-use Rattle.ideal_laws.proofs.Unique.{contains_head, contains_tail}
+use Rattle.ideal_laws.proofs.Unique.{contains_head}
 use Rattle.curve_model.specs.Fraction.{Fraction, IsFraction, AreEqual, InA, denominator_power, over}
 use Rattle.curve_model.specs.Closure.{InModule}
 use Rattle.curve_model.specs.Laws.{IsFinite}
@@ -31,10 +30,6 @@ use Rattle.digit_laws.proofs.Spaces.{spaces_law}
 use Rattle.digit_laws.proofs.Corners.{corners_law}
 use Rattle.over_laws.specs.Over.{OverData, InOver, HasRows, HasBasis}
 use Rattle.over_laws.specs.Laws.{RowsAreModules}
-
-contains_right : {X : Type 0} (xs ys : List X) (x : X) → Contains ys x → Contains (xs ++ ys) x
-contains_right [] ys x h = h
-contains_right (y ∷ xs) ys x h = contains_tail y x (xs ++ ys) (contains_right xs ys x h)
 
 module _ (A : CurveData) (B W : Fraction → Type 0) (same : (f : Fraction) → IsFraction A f → B f ↔ W f) where
   all_same : (us : List Fraction) → All (IsFraction A) us → All B us → All W us
@@ -103,7 +98,7 @@ module _ (o : OverData) (h : HasRows o) (ms : List Monomial) (k : AreCornersOf (
 
   power_in : InIdeal (data_of o.curve).prime (data_of o.curve).variables L (denominator_power (data_of o.curve) o.power)
   power_in = in_generator (data_of o.curve).prime (data_of o.curve).variables L (denominator_power (data_of o.curve) o.power) (high (data_of o.curve) c.curve) space.polys
-      (contains_right (map (value (data_of o.curve) ms o.power) o.rows.basis) (denominator_power (data_of o.curve) o.power ∷ (data_of o.curve).ideal) (denominator_power (data_of o.curve) o.power)
+      (Contains-append_right (map (value (data_of o.curve) ms o.power) o.rows.basis) (denominator_power (data_of o.curve) o.power ∷ (data_of o.curve).ideal) (denominator_power (data_of o.curve) o.power)
       (contains_head (denominator_power (data_of o.curve) o.power) (data_of o.curve).ideal))
 
   whole : (f : Fraction) → IsFraction (data_of o.curve) f → InA (data_of o.curve) f → InOver o f

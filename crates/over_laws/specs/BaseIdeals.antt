@@ -41,4 +41,5 @@ pub record HasCornerProducts (A : CurveData) (ms : List Monomial) (a : FiniteAlg
 -- such rows are an algebra, and its product is that of classes modulo I and d
 abbrev pub CornerProductsAreAlgebras : Type 0
 CornerProductsAreAlgebras =
-    (A : CurveData) → IsFinite A → (ms : List Monomial) → AreCornersOf A ms → (a : FiniteAlgebra) → HasCornerProducts A ms a → IsAlgebra a × IsDigitAlgebra A ms 1 a
+    (A : CurveData) → IsFinite A → (ms : List Monomial) → AreCornersOf A ms → (a : FiniteAlgebra) → HasCornerProducts A ms a
+    → IsAlgebra a × IsDigitAlgebra A ms 1 a
