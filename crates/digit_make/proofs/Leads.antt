@@ -1,6 +1,6 @@
 -- The corners by a reduced basis, and the rule of a lead.
-use Rattle.std.proofs.Common.{◌≡◌, ℕ, ◌+◌, ◌-◌, ◌*◌, ◌<◌, ◌≤◌, List, [], ◌∷◌, map, length, get_or, refl, sym, ap, ap₂, ◌∙◌, subst, arith}
-use Rattle.std.proofs.lemmas.List.{get_or-map, length-map}
+use Rattle.std.proofs.Common.{◌≡◌, ℕ, ◌+◌, ◌-◌, ◌*◌, ◌<◌, ◌≤◌, List, [], ◌∷◌, ◌++◌, map, length, get_or, refl, sym, ap, ap₂, ◌∙◌, subst, arith}
+use Rattle.std.proofs.lemmas.List.{get_or_default, get_or-map, length-map}
 use Rattle.std.specs.List.{All, Contains}
 use Rattle.std.proofs.lemmas.List.Elements.{All-cons, All-weaker, All-contains, All-contains_itself, All-get_or, All-map}
 use Rattle.comm_ring.specs.Ring.{CommRing}
@@ -10,7 +10,7 @@ use Rattle.prime_field.proofs.Table.{positive_of_prime, above_one}
 use Rattle.monomials.specs.Mono.{Monomial}
 use Rattle.polys.specs.declared.term.Term.{Term}
 use Rattle.polys.specs.Terms.{IsAffine, IsPoly, normal, add, sub, mul}
-use Rattle.polys.specs.Ideal.{InIdeal}
+use Rattle.polys.specs.Ideal.{InIdeal, HasDim, HasInfiniteDim, Spans, number_combination}
 use Rattle.polys.specs.Poly.{Polynomial, terms_of}
 use Rattle.polys.specs.Curve.{IsOver}
 use Rattle.polys.proofs.Affine.{poly_mul, poly_sub}
@@ -18,13 +18,15 @@ use Rattle.polys.proofs.Sums.{mul_comm}
 use Rattle.polys.proofs.Units.{canonical_same}
 use Rattle.ideal_laws.proofs.Ideals.{in_generator, in_poly}
 use Rattle.homogenising.specs.Laws.{HasAffineLeads}
+use Rattle.standard_monomials.specs.Finding.{HasDimAbove}
 use Rattle.standard_monomials.specs.Standard.{AreStandard, IsRising, IsStandardBasis, polynomial_of}
 use Rattle.standard_monomials.proofs.Bases.{reduced_law}
 use Rattle.standard_monomials.proofs.Space as Space
 use Rattle.lift_colon.specs.Lifted.{LiftedData, IsLifted, IsLift}
 use Rattle.digit_laws.specs.Digits.{AreCornersOf}
 use Rattle.digit_make.specs.declared.plan.Share.{Share}
-use Rattle.digit_make.specs.Making.{curve_of_lifted}
+use Rattle.digit_make.specs.Making.{AreLifts, curve_of_lifted}
+use Rattle.digit_make.proofs.Found.{each_push}
 use Rattle.digit_make.specs.Planned.{IsLeadSumIn, terms_in}
 
 module _ (C : CommRing) where
@@ -63,6 +65,29 @@ module _ (l : LiftedData) (h : IsLifted l) where
   pub corners_by : (ms : List Monomial) → AreStandard l.variables (terms_of l.sum) ms → IsRising ms → AreCornersOf (curve_of_lifted l) ms
   corners_by ms a r = record { basis = terms_of l.sum; standard = standard; all = a; rising = r }
 
+  -- what spans modulo the ideal and the denominator spans modulo their basis
+  pub spans_sum : (us : List (List Term)) → Spans l.prime l.variables (l.denominator.terms ∷ terms_of l.ideal) us → Spans l.prime l.variables (terms_of l.sum) us
+  spans_sum us s = record {
+    polys = s.polys;
+    each = λ f hf. let k = s.each f hf in record {
+      residues = k.residues;
+      below = k.below;
+      as_many = k.as_many;
+      close = (h.sum.exact (sub l.prime f (number_combination l.prime k.residues us)) (in_poly l.prime l.variables (l.denominator.terms ∷ terms_of l.ideal) (sub l.prime f (number_combination l.prime k.residues us)) positive gens k.close)).1 k.close;
+    };
+  }
+
+  -- a dimension of at most 256 is not infinite, nor above 256
+  pub not_wide : (N : ℕ) × (N ≤ 256) × HasDim l.prime l.variables (l.denominator.terms ∷ terms_of l.ideal) N → HasDimAbove l.prime l.variables (terms_of l.sum) 256 → ⊥
+  not_wide n w = let e = n.2.as_many in w.2.least n.2.basis (let a = n.1 in let b = w.1 in omega arith) (spans_sum n.2.basis n.2.spans)
+
+  pub not_infinite : (N : ℕ) × (N ≤ 256) × HasDim l.prime l.variables (l.denominator.terms ∷ terms_of l.ideal) N → HasInfiniteDim l.prime l.variables (terms_of l.sum) → ⊥
+  not_infinite n w = w n.2.basis (spans_sum n.2.basis n.2.spans)
+
+  -- each member of the basis is in the ideal of the denominator and the generators
+  pub members : All (InIdeal l.prime l.variables (l.denominator.terms ∷ terms_of l.ideal)) (terms_of l.sum)
+  members = standard.members
+
   -- the rule of a lead by a lift of a polynomial
   pub lead_by : (corners border outer : List Monomial) (m : Monomial) (g u tail : List Term) (tail_shares lift_shares : List Share) → IsAffine l.variables m → IsPoly l.prime l.variables g
       → IsLift l g u → tail ≡ sub l.prime (polynomial_of m) g → terms_in corners border outer tail_shares ≡ tail → terms_in corners border outer lift_shares ≡ u
@@ -93,3 +118,25 @@ low_read P fs list i f h e l q =
     let short : i < length fs = (let w = ap length e in omega arith) in
     subst P (get_or-map (λ (g : Polynomial). g.terms) fs i f [] short ∙ ap (λ (g : Polynomial). g.terms) (ap (λ z. get_or z i f) (sym e) ∙ sym q))
     (All-get_or P (terms_of fs) i [] (let w = length-map fs (λ (g : Polynomial). g.terms) in omega arith) h)
+
+-- the lift that is read is of the member that is read
+pub lift_read : (l : LiftedData) (lifts read basis : List Polynomial) (i : ℕ) (u g : Polynomial) → AreLifts l lifts → read ≡ lifts → basis ≡ l.sum → i < length basis
+    → u ≡ get_or read i u → g ≡ get_or basis i g → (u.prime ≡ l.prime) × IsLift l g.terms u.terms
+lift_read l lifts read basis i u g h e q k a b =
+    let inside : i < length lifts = (let w = h.count in let z = ap length q in omega arith) in
+    subst (λ (z : Polynomial). (z.prime ≡ l.prime) × IsLift l g.terms z.terms) (sym (a ∙ ap (λ z. get_or z i u) e))
+    (subst (λ (z : Polynomial). ((get_or lifts i u).prime ≡ l.prime) × IsLift l z.terms (get_or lifts i u).terms) (sym (b ∙ ap (λ z. get_or z i g) q)) (h.each i u g inside))
+
+-- a lift more
+pub lifts_push : (l : LiftedData) (lifts basis : List Polynomial) (i : ℕ) (u g : Polynomial) → length lifts ≡ i → basis ≡ l.sum → i < length basis → g ≡ get_or basis i g
+    → ((j : ℕ) (d e : Polynomial) → j < length lifts → ((get_or lifts j d).prime ≡ l.prime) × IsLift l (get_or l.sum j e).terms (get_or lifts j d).terms)
+    → (u.prime ≡ l.prime) × IsLift l g.terms u.terms
+    → (j : ℕ) (d e : Polynomial) → j < length (lifts ++ u ∷ []) → ((get_or (lifts ++ u ∷ []) j d).prime ≡ l.prime) × IsLift l (get_or l.sum j e).terms (get_or (lifts ++ u ∷ []) j d).terms
+lifts_push l lifts basis i u g n q k b h new j d e m =
+    each_push P lifts u (λ t x w y. h t x y w) (subst (λ t. P t u) (sym n) here) j d m e
+  where
+    P : ℕ → Polynomial → Type 0
+    P t x = (y : Polynomial) → (x.prime ≡ l.prime) × IsLift l (get_or l.sum t y).terms x.terms
+
+    here : P i u
+    here y = subst (λ (z : Polynomial). (u.prime ≡ l.prime) × IsLift l z.terms u.terms) (b ∙ get_or_default basis i g y k ∙ ap (λ z. get_or z i y) q) new

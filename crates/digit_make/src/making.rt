@@ -3,12 +3,12 @@ ghost use Rattle.std.specs.Prelude.{◌≡◌, ◌++◌, ◌*◌, ◌-◌, ◌<�
 ghost use Rattle.polys.specs.Curve.{Fit, data_of};
 ghost use Rattle.polys.specs.Terms.{IsAffine};
 ghost use Rattle.digit_laws.specs.Digits.{AreCornersOf};
-ghost use Rattle.digit_make.specs.Making.{IsLiftedOf, AreTrimmed, AreOuter};
+ghost use Rattle.digit_make.specs.Making.{AreLifts, IsLiftedOf, AreTrimmed, AreOuter};
 ghost use Rattle.digit_make.specs.Planned.{IsPlan, AreRowsOf};
 
 use crate::growing::grow;
 use crate::plan::{Plan, Rows};
-use crate::planning::{are_affine, border_of, corners_of, not_found, order_of, outer_of};
+use crate::planning::{are_affine, border_of, corners_of, lifts_of, not_found, order_of, outer_of};
 use crate::rules::{Play, products_of, rules_of};
 use digit_space::{Digits, OuterRow};
 use lift_colon::Lifted;
@@ -23,14 +23,16 @@ fn play_of(alloc: Global, lifted: &Lifted, corners: List<Mono>) -> Result<Play, 
     requires variables { lifted.now.variables ≤ 6 }
     ensures corners { IfOk result (λ play. play.corners ≡ corners) }
     ensures border { IfOk result (λ play. All (IsAffine lifted.now.variables) play.border) }
+    ensures lifts { IfOk result (λ play. AreLifts lifted.now play.lifts) }
     ensures outer { IfOk result (λ play. All (IsAffine lifted.now.variables) play.outer) }
 {
     let variables = lifted.variables();
     let order = order_of(alloc, variables, corners.as_slice())?;
     let border = border_of(alloc, variables, corners.as_slice())?;
+    let lifts = lifts_of(alloc, lifted)?;
     let outer = outer_of(
         alloc,
-        lifted,
+        lifts.as_slice(),
         order.as_slice(),
         corners.as_slice(),
         border.as_slice(),
@@ -42,6 +44,7 @@ fn play_of(alloc: Global, lifted: &Lifted, corners: List<Mono>) -> Result<Play, 
         order,
         corners,
         border,
+        lifts,
         outer,
     })
 }
@@ -77,6 +80,7 @@ pub(crate) fn plan_of(
         order: _,
         corners,
         border,
+        lifts: _,
         outer,
     } = play;
     Ok(Plan {

@@ -1,9 +1,10 @@
 // The monomials outside the corners whose digits are needed.
 ghost use Rattle.std.specs.Prelude.{◌≡◌, ℕ, ◌<◌, ◌≤◌, length, slice_index_or, All, IfOk, IfSome, IsTrue};
 ghost use Rattle.monomials.specs.Mono.{unit, times, variable};
+ghost use Rattle.polys.specs.Curve.{HasDimModulo};
 ghost use Rattle.polys.specs.Terms.{IsAffine};
 ghost use Rattle.digit_laws.specs.Digits.{AreCornersOf};
-ghost use Rattle.digit_make.specs.Making.{curve_of_lifted};
+ghost use Rattle.digit_make.specs.Making.{AreLifts, curve_of_lifted};
 
 use lift_colon::Lifted;
 use lists::{List, NoMemory};
@@ -77,8 +78,8 @@ pub(crate) fn quotient(m: &Mono, v: u32) -> Option<Mono>
 
 // The corners of the ideal and the denominator of the bases.
 pub(crate) fn corners_of(alloc: Global, lifted: &Lifted) -> Result<List<Mono>, NoMemory>
-    ensures corners { IfOk result (AreCornersOf (curve_of_lifted lifted.now)) }
-    ensures few { IfOk result (λ corners. length corners ≤ 256) }
+    requires { (N : ℕ) × (N ≤ 256) × HasDimModulo (curve_of_lifted lifted.now) N }
+    ensures { IfOk result (AreCornersOf (curve_of_lifted lifted.now)) }
 {
     match standard_monomials(
         alloc,
@@ -88,8 +89,8 @@ pub(crate) fn corners_of(alloc: Global, lifted: &Lifted) -> Result<List<Mono>, N
         MOST_CORNERS,
     )? {
         Standard::All(corners) => Ok(corners),
-        Standard::Wide => Err(not_found()),
-        Standard::Infinite => Err(not_found()),
+        Standard::Wide => unreachable!(),
+        Standard::Infinite => unreachable!(),
     }
 }
 
@@ -121,24 +122,33 @@ fn insert_products(v: u32, corners: &[Mono], border: &mut Vec<Mono>) -> Result<(
     Ok(())
 }
 
+// A lift of each member of the basis of the ideal and the denominator.
+pub(crate) fn lifts_of(alloc: Global, lifted: &Lifted) -> Result<List<Poly>, NoMemory>
+    ensures { IfOk result (AreLifts lifted.now) }
+{
+    let basis = lifted.sum_basis();
+    let mut lifts = List::new(alloc);
+    for i in 0..basis.len() {
+        match lifted.lift(alloc, &basis[i])? {
+            Some(lift) => lifts.push(lift)?,
+            None => unreachable!(),
+        }
+    }
+    Ok(lifts)
+}
+
 // The monomials of the lifts that are neither corners nor in the border, with their divisors down to the border, in rising
 // order.
 pub(crate) fn outer_of(
     alloc: Global,
-    lifted: &Lifted,
+    lifts: &[Poly],
     order: &[u32],
     corners: &[Mono],
     border: &[Mono],
 ) -> Result<List<Mono>, NoMemory> {
     let mut outer = Vec::new(alloc);
-    let basis = lifted.sum_basis();
-    for i in 0..basis.len() {
-        match lifted.lift(alloc, &basis[i])? {
-            Some(u) => {
-                insert_chains(order, corners, border, &u, &mut outer)?;
-            }
-            None => return Err(not_found()),
-        }
+    for lift in lifts {
+        insert_chains(order, corners, border, lift, &mut outer)?;
     }
     Ok(List::of_vec(outer))
 }

@@ -2,11 +2,11 @@
 ghost use Rattle.std.specs.Prelude.{◌≡◌, ◌+◌, ◌*◌, ◌<◌, ◌≤◌, length, All, IfOk, OnOk, IfSome};
 ghost use Rattle.monomials.specs.Mono.{times, variable};
 ghost use Rattle.polys.specs.Curve.{IsOver};
-ghost use Rattle.polys.specs.Terms.{IsAffine, degree_of};
-ghost use Rattle.lift_colon.specs.Lifted.{IsLifted};
+ghost use Rattle.polys.specs.Terms.{IsAffine};
+ghost use Rattle.lift_colon.specs.Lifted.{IsLift, IsLifted};
 ghost use Rattle.digit_make.specs.declared.plan.Place.{Place};
 ghost use Rattle.digit_make.specs.declared.plan.Rule.TheVariants.{Multiple};
-ghost use Rattle.digit_make.specs.Making.{curve_of_lifted};
+ghost use Rattle.digit_make.specs.Making.{AreLifts, curve_of_lifted};
 ghost use Rattle.digit_make.specs.Planned.{monomial_in, IsPlaceIn, terms_in, AreSharesIn, IsRuleIn, AreRulesIn, IsFoundIn, AreFirstProducts};
 
 use crate::plan::{Place, Rule, Share};
@@ -25,6 +25,8 @@ pub struct Play {
     pub order: Vec<u32>,
     pub corners: List<Mono>,
     pub border: List<Mono>,
+    /// A lift of each member of the basis of the ideal and the denominator.
+    pub lifts: List<Poly>,
     pub outer: List<Mono>,
 }
 
@@ -144,14 +146,16 @@ fn lead_rule(
     play: &Play,
     m: &Mono,
     g: &Poly,
+    lift: &Poly,
 ) -> Result<Rule, NoMemory>
     requires known { IsLifted lifted.now }
     requires m { IsAffine lifted.now.variables m.now }
     requires over { IsOver lifted.now.prime lifted.now.variables g.now }
-    requires low { degree_of g.now.terms ≤ 1000 }
+    requires prime { lift.now.prime ≡ lifted.now.prime }
+    requires lift { IsLift lifted.now g.now.terms lift.now.terms }
     ensures { IfOk result (IsRuleIn (curve_of_lifted lifted.now) play.now.corners play.now.border play.now.outer m.now) }
 {
-    let prime = g.prime();
+    let prime = lifted.prime();
     let _p = prime.get();
     let term = Term {
         coeff: 1,
@@ -159,14 +163,9 @@ fn lead_rule(
     };
     let lead = Poly::from_term(alloc, prime, term)?;
     let tail = lead.sub(g)?;
-    match lifted.lift(alloc, g)? {
-        Some(lift) => {
-            let tail_shares = shares_of(alloc, play, &tail)?;
-            let lift_shares = shares_of(alloc, play, &lift)?;
-            Ok(Rule::Lead(tail_shares, lift_shares))
-        }
-        None => Err(not_found()),
-    }
+    let tail_shares = shares_of(alloc, play, &tail)?;
+    let lift_shares = shares_of(alloc, play, lift)?;
+    Ok(Rule::Lead(tail_shares, lift_shares))
 }
 
 // The number of the polynomial with the lead `m`.
@@ -226,12 +225,13 @@ fn rule_of(
     inside: bool,
     m: &Mono,
 ) -> Result<Rule, NoMemory>
-    requires { IsAffine lifted.now.variables m.now }
+    requires lifts { AreLifts lifted.now play.now.lifts }
+    requires affine { IsAffine lifted.now.variables m.now }
     ensures { IfOk result (IsRuleIn (curve_of_lifted lifted.now) play.now.corners play.now.border play.now.outer m.now) }
 {
     let basis = lifted.sum_basis();
     match with_lead(basis, m) {
-        Some(i) => lead_rule(alloc, lifted, play, m, &basis[i]),
+        Some(i) => lead_rule(alloc, lifted, play, m, &basis[i], &play.lifts.as_slice()[i]),
         None => multiple_rule(lifted, play, inside, m),
     }
 }
@@ -244,7 +244,8 @@ pub(crate) fn rules_of(
     inside: bool,
     monomials: &[Mono],
 ) -> Result<List<Rule>, NoMemory>
-    requires { All (IsAffine lifted.now.variables) monomials.now }
+    requires lifts { AreLifts lifted.now play.now.lifts }
+    requires affine { All (IsAffine lifted.now.variables) monomials.now }
     ensures { IfOk result (AreRulesIn (curve_of_lifted lifted.now) play.now.corners play.now.border play.now.outer monomials.now) }
 {
     let mut rules = List::new(alloc);

@@ -1,9 +1,10 @@
 // Digits computed by hand modulo 7, in the variables x and y.
-ghost use Rattle.std.specs.Prelude.{◌≡◌, ◌≤◌, IfOk, IfSome, IsTrue};
+ghost use Rattle.std.specs.Prelude.{◌≡◌, ◌≤◌, ℕ, IfOk, IsTrue};
 ghost use Rattle.polys.specs.Curve.{Fit, IsOver};
 ghost use Rattle.polys.specs.Ideal.{InIdeal};
 ghost use Rattle.polys.specs.Poly.{terms_of};
 ghost use Rattle.polys.specs.Terms.{IsPoly, one};
+ghost use Rattle.lift_colon.specs.Lifted.{HasDimension};
 ghost use Rattle.digit_make.specs.Making.{IsLiftedOf};
 
 use crate::planning::is_affine;
@@ -103,6 +104,17 @@ fn is_proper(alloc: Global, lifted: &Lifted) -> Result<bool, Fail>
     }
 }
 
+// Whether the dimension modulo the denominator is at most 256.
+fn is_narrow(alloc: Global, lifted: &Lifted) -> Result<bool, Fail>
+    ensures { IfOk result (λ yes. IsTrue yes → (N : ℕ) × (N ≤ 256) × HasDimension lifted.now N) }
+{
+    match lifted.dimension(alloc, 256)? {
+        Dimension::Finite(n) => Ok(n <= 256),
+        Dimension::Wide => Ok(false),
+        Dimension::Infinite => Ok(false),
+    }
+}
+
 // A curve that is fit, and its bases.
 #[derive(Drop)]
 struct Sample {
@@ -111,7 +123,7 @@ struct Sample {
 }
 
 // The curve of the generator's ideal and the denominator, if it is fit.
-fn sample(alloc: Global, p: Prime, generator: Rows, d: Rows) -> Result<Sample, Fail>
+fn fit_sample(alloc: Global, p: Prime, generator: Rows, d: Rows) -> Result<Sample, Fail>
     ensures fit { IfOk result (λ s. Fit s.curve.value) }
     ensures lifted { IfOk result (λ s. IsLiftedOf s.curve.value s.lifted) }
 {
@@ -128,13 +140,10 @@ fn fit_curve(alloc: Global, lifted: &Lifted) -> Result<Curve, Fail>
     ensures fit { IfOk result Fit }
     ensures lifted { IfOk result (λ c. IsLiftedOf c lifted.now) }
 {
-    let narrow = match lifted.dimension(alloc, 256)? {
-        Dimension::Finite(_) => true,
-        Dimension::Wide => false,
-        Dimension::Infinite => false,
-    };
-    let low = lifted.denominator().degree() <= MAX_DENOMINATOR_DEGREE;
-    if !narrow || !low || !is_proper(alloc, lifted)? || !lifted.is_regular()? {
+    if lifted.denominator().degree() > MAX_DENOMINATOR_DEGREE {
+        return Err("high".into());
+    }
+    if !is_narrow(alloc, lifted)? || !is_proper(alloc, lifted)? || !lifted.is_regular()? {
         return Err("not fit".into());
     }
     Ok(Curve {
@@ -197,7 +206,7 @@ fn grown(s: &Sample, alloc: Global, before: u32, depth: u32) -> Result<Digits, F
 fn cusp(rt: HostRuntime) -> Result<(), Fail> {
     let alloc = rt.alloc();
     let p = Prime::new(7).ok_or("p")?;
-    let s = sample(alloc, p, &[(1, 3, 0), (6, 0, 2)], &[(1, 2, 0)])?;
+    let s = fit_sample(alloc, p, &[(1, 3, 0), (6, 0, 2)], &[(1, 2, 0)])?;
     let digits = make(alloc, &s.curve, &s.lifted, 2)?;
     assert!(rt; has_basis(&digits, &[(0, 0), (0, 1), (1, 0), (1, 1)]));
     assert!(rt; has_digits(&digits, &[(&[(1, 0, 2)], &[0, 0, 0, 0, 0, 0, 1, 0])])?);
@@ -221,7 +230,7 @@ fn cusp(rt: HostRuntime) -> Result<(), Fail> {
 fn node(rt: HostRuntime) -> Result<(), Fail> {
     let alloc = rt.alloc();
     let p = Prime::new(7).ok_or("p")?;
-    let s = sample(alloc, p, &[(6, 3, 0), (6, 2, 0), (1, 0, 2)], &[(1, 1, 0)])?;
+    let s = fit_sample(alloc, p, &[(6, 3, 0), (6, 2, 0), (1, 0, 2)], &[(1, 1, 0)])?;
     let known: [Known; 4] = [
         (&[(1, 0, 2)], &[0, 0, 0, 0, 1, 0, 1, 0]),
         (&[(1, 0, 3)], &[0, 0, 0, 0, 0, 1, 0, 1]),
@@ -242,7 +251,7 @@ fn node(rt: HostRuntime) -> Result<(), Fail> {
 fn five_corners(rt: HostRuntime) -> Result<(), Fail> {
     let alloc = rt.alloc();
     let p = Prime::new(7).ok_or("p")?;
-    let s = sample(alloc, p, &[(1, 5, 0), (6, 0, 2), (1, 0, 0)], &[(1, 0, 1)])?;
+    let s = fit_sample(alloc, p, &[(1, 5, 0), (6, 0, 2), (1, 0, 0)], &[(1, 0, 1)])?;
     let known: [Known; 3] = [
         (&[(1, 5, 0)], &[6, 0, 0, 0, 0, 0, 0, 0, 0, 0, 1, 0, 0, 0, 0]),
         (&[(1, 6, 0)], &[0, 6, 0, 0, 0, 0, 0, 0, 0, 0, 0, 1, 0, 0, 0]),
@@ -259,11 +268,11 @@ fn no_digits(rt: HostRuntime) -> Result<(), Fail> {
     let alloc = rt.alloc();
     let p = Prime::new(7).ok_or("p")?;
     let none: [Known; 2] = [(&[(1, 1, 0)], &[]), (&[(1, 0, 0)], &[])];
-    let s = sample(alloc, p, &[(1, 3, 0), (6, 0, 2)], &[(1, 0, 0)])?;
+    let s = fit_sample(alloc, p, &[(1, 3, 0), (6, 0, 2)], &[(1, 0, 0)])?;
     let digits = grown(&s, alloc, 2, 3)?;
     assert_eq!(rt; (digits.dimension(), digits.depth()), (0, 3));
     assert!(rt; has_digits(&digits, &none)?);
-    let s = sample(alloc, p, &[(1, 3, 0), (6, 0, 2)], &[(1, 2, 0)])?;
+    let s = fit_sample(alloc, p, &[(1, 3, 0), (6, 0, 2)], &[(1, 2, 0)])?;
     let digits = grown(&s, alloc, 0, 0)?;
     assert_eq!(rt; (digits.dimension(), digits.depth()), (4, 0));
     assert!(rt; has_digits(&digits, &none)?);

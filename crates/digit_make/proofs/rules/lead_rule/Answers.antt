@@ -1,29 +1,25 @@
 use Rattle.std.proofs.Common.{◌≡◌, ap, ap₂, ◌∙◌, subst}
-use Rattle.std.specs.Prelude.{IfSome}
 use Rattle.prime_field.proofs.Table.{above_one}
 use Rattle.polys.specs.Terms.{normal, sub}
-use Rattle.lift_colon.specs.Lifted.{IsLift}
 use Rattle.standard_monomials.specs.Standard.{polynomial_of}
 use Rattle.digit_make.specs.Planned.{AreSharesIn}
 use Rattle.digit_make.proofs.Expansion.{one_term}
 use Rattle.digit_make.proofs.Leads.{lead_by}
 use Rattle.digit_make.proofs.rules.lead_rule.Goals as goal
 
-pub returns-in-Some : goal.returns-in-Some
-returns-in-Some c =
+pub returns : goal.returns
+returns c =
     let l = c.args.lifted.now in
     let play = c.args.play.now in
     let g = c.args.g.now in
     let m = c.args.m.now in
-    let prime : c.prime-prime.result ≡ c.args.lifted.now.prime = c.prime-prime.ensures ∙ c.requires.over.prime in
-    let lead : c.in_ok-lead.lead.prime ≡ c.args.lifted.now.prime = ap (λ z. z.prime) c.in_ok-lead.ensures ∙ prime in
+    let lead : c.in_ok-lead.lead.prime ≡ c.args.lifted.now.prime = ap (λ z. z.prime) c.in_ok-lead.ensures ∙ c.prime-prime.ensures in
     let tail : c.in_ok-tail.tail.prime ≡ c.args.lifted.now.prime = ap (λ z. z.prime) c.in_ok-tail.ensures ∙ lead in
-    let lift = subst (λ z. IfSome z (λ u. (u.prime ≡ l.prime) × IsLift l g.terms u.terms)) c.in-Some.is c.in_ok-lift.ensures.some in
     let terms : c.in_ok-tail.tail.terms ≡ sub c.args.lifted.now.prime (polynomial_of c.args.m.now) c.args.g.now.terms =
     ap (λ z. z.terms) c.in_ok-tail.ensures
-    ∙ ap₂ (λ x y. sub x y g.terms) lead (ap (λ z. z.terms) c.in_ok-lead.ensures ∙ ap (λ q. normal q (polynomial_of m)) prime ∙ one_term l.prime m (above_one l.prime c.requires.known.prime)) in (
-      subst (λ q. AreSharesIn q play.corners play.border play.outer c.in_ok-tail_shares-in-Some.tail_shares) tail c.in_ok-tail_shares-in-Some.ensures.shares,
-      subst (λ q. AreSharesIn q play.corners play.border play.outer c.in_ok-lift_shares-in-Some.lift_shares) lift.0 c.in_ok-lift_shares-in-Some.ensures.shares,
-      lead_by l c.requires.known play.corners play.border play.outer m g.terms c.in-Some.lift.terms c.in_ok-tail.tail.terms c.in_ok-tail_shares-in-Some.tail_shares c.in_ok-lift_shares-in-Some.lift_shares
-          c.requires.m c.requires.over.poly lift.1 terms c.in_ok-tail_shares-in-Some.ensures.terms c.in_ok-lift_shares-in-Some.ensures.terms,
+    ∙ ap₂ (λ x y. sub x y g.terms) lead (ap (λ z. z.terms) c.in_ok-lead.ensures ∙ ap (λ q. normal q (polynomial_of m)) c.prime-prime.ensures ∙ one_term l.prime m (above_one l.prime c.requires.known.prime)) in (
+      subst (λ q. AreSharesIn q play.corners play.border play.outer c.in_ok-tail_shares.tail_shares) tail c.in_ok-tail_shares.ensures.shares,
+      subst (λ q. AreSharesIn q play.corners play.border play.outer c.in_ok-lift_shares.lift_shares) c.requires.prime c.in_ok-lift_shares.ensures.shares,
+      lead_by l c.requires.known play.corners play.border play.outer m g.terms c.args.lift.now.terms c.in_ok-tail.tail.terms c.in_ok-tail_shares.tail_shares c.in_ok-lift_shares.lift_shares c.requires.m c.requires.over.poly
+          c.requires.lift terms c.in_ok-tail_shares.ensures.terms c.in_ok-lift_shares.ensures.terms,
     )

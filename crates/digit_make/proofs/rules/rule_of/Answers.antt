@@ -1,8 +1,12 @@
-use Rattle.std.proofs.Common.{◌≤◌}
-use Rattle.polys.specs.Terms.{degree_of}
-use Rattle.digit_make.proofs.Leads.{low_read}
+use Rattle.digit_make.proofs.Leads.{lift_read}
 use Rattle.digit_make.proofs.rules.rule_of.Goals as goal
 
-pub lead_rule-requires-clause-low : goal.lead_rule-requires-clause-low
-lead_rule-requires-clause-low c =
-    low_read (λ f. degree_of f ≤ 1000) c.args.lifted.now.sum c.sum_basis-basis.result.now c.in-Some.i c.index-basis-i.result c.sum_basis-basis.ensures.known.sum_low c.sum_basis-basis.ensures.value c.in-Some.ensures c.index-basis-i.is
+pub lead_rule-requires-clause-prime : goal.lead_rule-requires-clause-prime
+lead_rule-requires-clause-prime c =
+    (lift_read c.args.lifted.now c.args.play.now.lifts c.as_slice.result.now c.sum_basis-basis.result.now c.in-Some.i c.index-as_slice-i.result c.index-basis-i.result c.requires.lifts c.as_slice.ensures
+    c.sum_basis-basis.ensures.value c.in-Some.ensures c.index-as_slice-i.is c.index-basis-i.is).0
+
+pub lead_rule-requires-clause-lift : goal.lead_rule-requires-clause-lift
+lead_rule-requires-clause-lift c =
+    (lift_read c.args.lifted.now c.args.play.now.lifts c.as_slice.result.now c.sum_basis-basis.result.now c.in-Some.i c.index-as_slice-i.result c.index-basis-i.result c.requires.lifts c.as_slice.ensures
+    c.sum_basis-basis.ensures.value c.in-Some.ensures c.index-as_slice-i.is c.index-basis-i.is).1
