@@ -201,54 +201,80 @@ fn grown(s: &Sample, alloc: Global, before: u32, depth: u32) -> Result<Digits, F
     Ok(extended(&digits, &s.lifted, depth)?)
 }
 
+// Whether the polynomials have these digits, made at the depth, and made at any smaller one and extended.
+fn holds_at(alloc: Global, s: &Sample, depth: u32, known: &[Known]) -> Result<bool, Fail>
+    requires fit { Fit s.now.curve.value }
+    requires lifted { IsLiftedOf s.now.curve.value s.now.lifted }
+    requires depth { depth ≤ 100 }
+{
+    let digits = make(alloc, &s.curve, &s.lifted, depth)?;
+    if !has_digits(&digits, known)? {
+        return Ok(false);
+    }
+    for before in 0..depth + 1 {
+        let digits = grown(s, alloc, before, depth)?;
+        if !has_digits(&digits, known)? {
+            return Ok(false);
+        }
+    }
+    Ok(true)
+}
+
 // y^2 = x^3 with the denominator x^2. Since x^3 is x d, the digits of y^2 are those of x one block on.
-#[test]
-fn cusp(rt: HostRuntime) -> Result<(), Fail> {
-    let alloc = rt.alloc();
+fn cusp(alloc: Global) -> Result<Sample, Fail>
+    ensures fit { IfOk result (λ s. Fit s.curve.value) }
+    ensures lifted { IfOk result (λ s. IsLiftedOf s.curve.value s.lifted) }
+{
     let p = Prime::new(7).ok_or("p")?;
-    let s = fit_sample(alloc, p, &[(1, 3, 0), (6, 0, 2)], &[(1, 2, 0)])?;
+    fit_sample(alloc, p, &[(1, 3, 0), (6, 0, 2)], &[(1, 2, 0)])
+}
+
+#[test]
+fn corners_and_digits_of_the_cusp(rt: HostRuntime) -> Result<(), Fail> {
+    let alloc = rt.alloc();
+    let s = cusp(alloc)?;
+    let exponents = [(0, 0), (0, 1), (1, 0), (1, 1)];
+    let known: [Known; 1] = [(&[(1, 0, 2)], &[0, 0, 0, 0, 0, 0, 1, 0])];
     let digits = make(alloc, &s.curve, &s.lifted, 2)?;
-    assert!(rt; has_basis(&digits, &[(0, 0), (0, 1), (1, 0), (1, 1)]));
-    assert!(rt; has_digits(&digits, &[(&[(1, 0, 2)], &[0, 0, 0, 0, 0, 0, 1, 0])])?);
-    let known: [Known; 5] = [
+    assert!(rt; has_basis(&digits, &exponents));
+    assert!(rt; has_digits(&digits, &known)?);
+    Ok(())
+}
+
+#[test]
+fn deeper_digits_of_the_cusp(rt: HostRuntime) -> Result<(), Fail> {
+    let alloc = rt.alloc();
+    let s = cusp(alloc)?;
+    let known: [Known; 4] = [
         (&[(1, 0, 2)], &[0, 0, 0, 0, 0, 0, 1, 0, 0, 0, 0, 0]),
         (&[(1, 0, 3)], &[0, 0, 0, 0, 0, 0, 0, 1, 0, 0, 0, 0]),
         (&[(1, 5, 1)], &[0, 0, 0, 0, 0, 0, 0, 0, 0, 0, 0, 1]),
         (&[(1, 2, 0), (3, 0, 0)], &[3, 0, 0, 0, 1, 0, 0, 0, 0, 0, 0, 0]),
-        (&[(1, 0, 4)], &[0; 12]),
     ];
-    assert!(rt; has_digits(&make(alloc, &s.curve, &s.lifted, 3)?, &known)?);
-    for before in 0..4 {
-        assert!(rt; has_digits(&grown(&s, alloc, before, 3)?, &known)?, "from {before}");
-    }
+    assert!(rt; holds_at(alloc, &s, 3, &known)?);
     Ok(())
 }
 
 // y^2 = x^2 + x^3 with the denominator x: y^2 is d^2 + d^3. The lift of y^2 is x + x^2, and x^2 is neither a corner nor the
 // product of a variable and one.
 #[test]
-fn node(rt: HostRuntime) -> Result<(), Fail> {
+fn digits_of_a_node(rt: HostRuntime) -> Result<(), Fail> {
     let alloc = rt.alloc();
     let p = Prime::new(7).ok_or("p")?;
     let s = fit_sample(alloc, p, &[(6, 3, 0), (6, 2, 0), (1, 0, 2)], &[(1, 1, 0)])?;
     let known: [Known; 4] = [
         (&[(1, 0, 2)], &[0, 0, 0, 0, 1, 0, 1, 0]),
         (&[(1, 0, 3)], &[0, 0, 0, 0, 0, 1, 0, 1]),
-        (&[(1, 0, 4)], &[0; 8]),
+        (&[(1, 0, 4)], &[0, 0, 0, 0, 0, 0, 0, 0]),
         (&[(2, 2, 1), (5, 1, 0)], &[0, 0, 5, 0, 0, 2, 0, 0]),
     ];
-    let digits = make(alloc, &s.curve, &s.lifted, 4)?;
-    assert!(rt; has_basis(&digits, &[(0, 0), (0, 1)]));
-    assert!(rt; has_digits(&digits, &known)?);
-    for before in 0..5 {
-        assert!(rt; has_digits(&grown(&s, alloc, before, 4)?, &known)?, "from {before}");
-    }
+    assert!(rt; holds_at(alloc, &s, 4, &known)?);
     Ok(())
 }
 
 // y^2 = x^5 + 1 with the denominator y: x^5 is -1 + d^2.
 #[test]
-fn five_corners(rt: HostRuntime) -> Result<(), Fail> {
+fn digits_at_five_corners(rt: HostRuntime) -> Result<(), Fail> {
     let alloc = rt.alloc();
     let p = Prime::new(7).ok_or("p")?;
     let s = fit_sample(alloc, p, &[(1, 5, 0), (6, 0, 2), (1, 0, 0)], &[(1, 0, 1)])?;
@@ -257,24 +283,32 @@ fn five_corners(rt: HostRuntime) -> Result<(), Fail> {
         (&[(1, 6, 0)], &[0, 6, 0, 0, 0, 0, 0, 0, 0, 0, 0, 1, 0, 0, 0]),
         (&[(4, 1, 1)], &[0, 0, 0, 0, 0, 0, 4, 0, 0, 0, 0, 0, 0, 0, 0]),
     ];
-    assert!(rt; has_digits(&make(alloc, &s.curve, &s.lifted, 3)?, &known)?);
-    assert!(rt; has_digits(&grown(&s, alloc, 1, 3)?, &known)?);
+    assert!(rt; holds_at(alloc, &s, 3, &known)?);
     Ok(())
 }
 
-// With the denominator 1 there are no corners, and at the depth 0 no digits.
+// With the denominator 1 there are no corners.
 #[test]
-fn no_digits(rt: HostRuntime) -> Result<(), Fail> {
+fn no_corners(rt: HostRuntime) -> Result<(), Fail> {
     let alloc = rt.alloc();
     let p = Prime::new(7).ok_or("p")?;
-    let none: [Known; 2] = [(&[(1, 1, 0)], &[]), (&[(1, 0, 0)], &[])];
     let s = fit_sample(alloc, p, &[(1, 3, 0), (6, 0, 2)], &[(1, 0, 0)])?;
+    let known: [Known; 2] = [(&[(1, 1, 0)], &[]), (&[(1, 0, 0)], &[])];
     let digits = grown(&s, alloc, 2, 3)?;
-    assert_eq!(rt; (digits.dimension(), digits.depth()), (0, 3));
-    assert!(rt; has_digits(&digits, &none)?);
-    let s = fit_sample(alloc, p, &[(1, 3, 0), (6, 0, 2)], &[(1, 2, 0)])?;
+    assert_eq!(rt; digits.dimension(), 0);
+    assert_eq!(rt; digits.depth(), 3);
+    assert!(rt; has_digits(&digits, &known)?);
+    Ok(())
+}
+
+#[test]
+fn no_depth(rt: HostRuntime) -> Result<(), Fail> {
+    let alloc = rt.alloc();
+    let s = cusp(alloc)?;
+    let known: [Known; 2] = [(&[(1, 1, 0)], &[]), (&[(1, 0, 0)], &[])];
     let digits = grown(&s, alloc, 0, 0)?;
-    assert_eq!(rt; (digits.dimension(), digits.depth()), (4, 0));
-    assert!(rt; has_digits(&digits, &none)?);
+    assert_eq!(rt; digits.dimension(), 4);
+    assert_eq!(rt; digits.depth(), 0);
+    assert!(rt; has_digits(&digits, &known)?);
     Ok(())
 }
