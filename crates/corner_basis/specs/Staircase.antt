@@ -1,15 +1,13 @@
 -- The monomials that are tried: those that are no leads of an ideal, and its least leads.
-use Rattle.std.specs.Prelude.{◌≡◌, ◌↔◌, ◌⊎◌, ℕ, ◌+◌, ◌<◌, ◌≤◌, List, [], ◌∷◌, ◌++◌, length, map, take, slice_index_or, All, Contains}
+use Rattle.std.specs.Prelude.{◌≡◌, ◌↔◌, ◌⊎◌, ℕ, ◌*◌, ◌<◌, ◌≤◌, List, [], length, Contains}
 use Rattle.std.specs.declared.cmp.Ordering.TheVariants.{Less}
-use Rattle.monomials.specs.Mono.{Monomial, Divides, cmp_dp, times, total_degree, unit, variable}
+use Rattle.monomials.specs.Mono.{Monomial, Divides, cmp_dp, total_degree}
 use Rattle.polys.specs.declared.term.Term.{Term}
 use Rattle.polys.specs.Terms.{EachMono, IsAffine, IsPoly, sub}
-use Rattle.polys.specs.Curve.{CurveData, data_of}
+use Rattle.polys.specs.Curve.{CurveData}
 use Rattle.row_space.specs.Subspace.{Subspace}
 use Rattle.standard_monomials.specs.Standard.{AreMinimal, IsRising, polynomial_of}
 use Rattle.digit_laws.specs.Digits.{HasDigitsIn, IsOfDigits}
-use Rattle.digit_space.specs.Model.{DigitData, IsDigitsOf}
-use Rattle.corner_basis.specs.declared.staircase.Staircase.{Staircase}
 
 -- some monomial of the list divides m
 abbrev pub HasDivisor : List Monomial → Monomial → Type 0
@@ -41,23 +39,6 @@ pub record IsStaircase (A : CurveData) (ms : List Monomial) (t : ℕ) (space spa
   pub free : (h : List Term) → IsPoly A.prime A.variables h → EachMono (Contains ss) h → HasDigitsIn A ms t space h → h ≡ []
   pub reducible : (l : Monomial) → Contains ls l → IsReducible A ms t space ss l
   pub of_digits : IsOfDigits A ms t span
-  pub count : length span.basis ≡ length space.basis + length ss
+  pub few : length ss ≤ length span.basis
+  pub within : length span.basis ≤ length ms * t
   pub spans : (f : List Term) → IsPoly A.prime A.variables f → HasDigitsIn A ms t span f ↔ IsClassOf A ms t space (Contains ss) f
-
--- the rows have the digits of the monomials
-pub record HaveDigits (g : DigitData) (ws : List Monomial) (rows : List (List ℕ)) : Type 0 where
-  pub count : length rows ≡ length ws
-  pub digits : (i : ℕ) → i < length ws → IsDigitsOf g (polynomial_of (slice_index_or ws i unit)) (slice_index_or rows i [])
-
--- such monomials with their rows
-pub record AreTried (g : DigitData) (t : ℕ) (space : Subspace) (s : Staircase) : Type 0 where
-  pub monomials : IsStaircase (data_of g.curve) g.basis t space s.span s.standard s.leads
-  pub standard_rows : HaveDigits g s.standard s.standard_rows
-  pub lead_rows : HaveDigits g s.leads s.lead_rows
-
--- m is greater than all that were tried, and is no multiple of a lead
-pub record IsNew (g : DigitData) (s : Staircase) (m : Monomial) : Type 0 where
-  pub affine : IsAffine g.curve.variables m
-  pub above : (w : Monomial) → IsAmong s.standard s.leads w → cmp_dp w m ≡ Less
-  pub outside : HasDivisor s.leads m → ⊥
-  pub low : total_degree m.exponents ≤ length s.standard
