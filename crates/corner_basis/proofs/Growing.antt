@@ -18,9 +18,7 @@ use Rattle.polys.specs.Terms.{EachMono, IsAffine, IsCanonical, keep, add, sub, m
 use Rattle.polys.specs.Curve.{CurveData}
 use Rattle.polys.proofs.Affine.{poly_add, poly_multiple}
 use Rattle.polys.proofs.Each.{every_add, every_more, every_multiple, every_zip}
-use Rattle.polys.proofs.Leads.{every_low}
 use Rattle.polys.proofs.Units.{canonical_same}
-use Rattle.polys.proofs.Weights.{canon}
 use Rattle.ideal_laws.proofs.Unique.{contains_head, contains_tail, contains_none}
 use Rattle.curve_model.specs.Laws.{IsFinite}
 use Rattle.curve_laws.proofs.Base.{Ring, member}
@@ -31,6 +29,7 @@ use Rattle.digit_laws.specs.Digits.{AreCornersOf, AreDigits, IsOfDigits}
 use Rattle.digit_laws.proofs.Blocks.{multiple_none}
 use Rattle.digit_laws.proofs.Spaces.{affine_poly}
 use Rattle.corner_basis.specs.Staircase.{HasDivisor, IsAmong, IsClassOf, IsReducible, IsStaircase}
+use Rattle.corner_basis.proofs.Leads.{below_lead}
 use Rattle.corner_basis.proofs.Classes.{pos, P, W, laws, Span, RM, Scalars, In, up, down, k_row, gained_digits, gained, regained}
 
 module _ (C : CommRing) where
@@ -89,9 +88,6 @@ module _ (A : CurveData) (c : IsFinite A) (ms : List Monomial) (k : AreCornersOf
     whole : h ≡ add A.prime (multiple A.prime coeff (polynomial_of m)) rest
     alone : coeff ≡ 0 → h ≡ rest
 
-  below_lead : (t : Term) (f : List Term) → IsCanonical A.prime (t ∷ f) → EachMono (λ w. cmp_dp w t.mono ≡ Less) f
-  below_lead t f h = every_more (λ w. cmp_dp t.mono w ≡ Greater) (λ w. cmp_dp w t.mono ≡ Less) f (λ w e. turn_down t.mono w e) (every_low A.prime t.mono f (canon A.prime f h.3) h.2)
-
   no_part : (ss : List Monomial) (m : Monomial) (h : List Term) → Poly (polynomial_of m) → Poly h → EachMono (Contains ss) h → Parted ss m h
   no_part ss m h hm hh e = record {
     coeff = 0;
@@ -108,7 +104,7 @@ module _ (A : CurveData) (c : IsFinite A) (ms : List Monomial) (k : AreCornersOf
   parted ss m (t ∷ f) above hm hh e = go (Contains-push_cases ss m t.mono e.0)
     where
       low : EachMono (λ w. cmp_dp w t.mono ≡ Less) f
-      low = below_lead t f hh.canonical
+      low = below_lead A.prime t f hh.canonical
 
       tail : Poly f
       tail = record { canonical = hh.canonical.3; affine = hh.affine.1 }
