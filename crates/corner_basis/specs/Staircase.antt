@@ -1,7 +1,7 @@
 -- The monomials that are tried: those that are no leads of an ideal, and its least leads.
-use Rattle.std.specs.Prelude.{◌≡◌, ◌↔◌, ◌⊎◌, ℕ, ◌*◌, ◌<◌, ◌≤◌, List, [], length, Contains}
+use Rattle.std.specs.Prelude.{◌≡◌, ◌↔◌, ◌⊎◌, ℕ, ◌+◌, ◌-◌, ◌*◌, ◌<◌, ◌≤◌, List, [], length, slice_index_or, Contains}
 use Rattle.std.specs.declared.cmp.Ordering.TheVariants.{Less}
-use Rattle.monomials.specs.Mono.{Monomial, Divides, cmp_dp, total_degree}
+use Rattle.monomials.specs.Mono.{Monomial, Divides, cmp_dp, times, total_degree, unit, variable}
 use Rattle.polys.specs.declared.term.Term.{Term}
 use Rattle.polys.specs.Terms.{EachMono, IsAffine, IsPoly, sub}
 use Rattle.polys.specs.Curve.{CurveData}
@@ -42,3 +42,21 @@ pub record IsStaircase (A : CurveData) (ms : List Monomial) (t : ℕ) (space spa
   pub few : length ss ≤ length span.basis
   pub within : length span.basis ≤ length ms * t
   pub spans : (f : List Term) → IsPoly A.prime A.variables f → HasDigitsIn A ms t span f ↔ IsClassOf A ms t space (Contains ss) f
+
+-- m is in the one list, or a multiple of a member of the other
+abbrev pub IsPassed : List Monomial → List Monomial → Monomial → Type 0
+IsPassed ss ls m = Contains ss m ⊎ HasDivisor ls m
+
+-- the first monomials of the queue, so many of them, are tried, and all multiples of ss by a variable are in the queue
+pub record IsSearch (n next : ℕ) (queue ss ls : List Monomial) : Type 0 where
+  pub rising : IsRising queue
+  pub affine : (m : Monomial) → Contains queue m → IsAffine n m
+  pub low : (m : Monomial) → Contains queue m → total_degree m.exponents ≤ length ss
+  pub passed : (i : ℕ) → i < next → i < length queue → IsPassed ss ls (slice_index_or queue i unit)
+  pub only : (m : Monomial) → IsAmong ss ls m → (i : ℕ) × (i < next) × (i < length queue) × (slice_index_or queue i unit ≡ m)
+  pub first : Contains queue unit
+  pub closed : (m : Monomial) (v : ℕ) → Contains ss m → v < n → Contains queue (times m (variable v))
+
+-- an upper bound of the steps that are left: each that adds to the space adds at most six monomials
+abbrev pub steps_left : (room dimension next : ℕ) → List Monomial → ℕ
+steps_left room dimension next queue = 7 * (room - dimension) + (length queue - next)
