@@ -19,6 +19,7 @@ use Rattle.row_space.specs.Subspace.{Subspace, Gains, IsIn}
 use Rattle.digit_laws.specs.Digits.{AreCornersOf, AreDigits, HasDigitsIn, IsOfDigits}
 use Rattle.digit_laws.specs.Laws.{DigitsAreCoordinates}
 use Rattle.digit_laws.proofs.DigitLaws.{digit_law}
+use Rattle.corner_basis.proofs.Numbers.{opposite_row}
 
 -- the same rows and width, by other names
 pub moved_in : (p q n m : ℕ) (vs : List (List ℕ)) (row : List ℕ) → p ≡ q → n ≡ m → InSpan (rows p n) vs row → InSpan (rows q m) vs row
@@ -45,16 +46,6 @@ module _ (A : CurveData) (c : IsFinite A) (ms : List Monomial) (k : AreCornersOf
 
   abbrev pub Span : List (List ℕ) → List ℕ → Type 0
   Span vs row = InSpan (rows A.prime W) vs row
-
-  -- p - 1 times a row is its opposite
-  opposite_row : (y : List ℕ) → (rows A.prime W).◌≋◌ ((rows A.prime W).◌·◌ (A.prime - 1) y) ((rows A.prime W).opposite y)
-  opposite_row y = RM.trans (RM.scale_cong {x = y} {x' = y} same (RM.rfl y)) (Modules.opposite_is Scalars RM y)
-    where
-      same : (A.prime - 1) % A.prime ≡ ((A.prime - 1 % A.prime) % A.prime) % A.prime
-      same =
-          let one : 1 % A.prime ≡ 1 = mod-eq_of_lt (high A c.curve) in
-          let less : (A.prime - 1) % A.prime ≡ A.prime - 1 = mod-eq_of_lt (let h = high A c.curve in omega arith) in
-          sym (ap (λ z. ((A.prime - z) % A.prime) % A.prime) one ∙ ap (λ z. z % A.prime) less)
 
   abbrev pub In : Subspace → List Term → Type 0
   In S f = HasDigitsIn A ms T S f
@@ -132,7 +123,7 @@ module _ (A : CurveData) (c : IsFinite A) (ms : List Monomial) (k : AreCornersOf
           es,
           (let q : length (x ∷ es) ≡ length (row ∷ old.basis) = l in omega arith),
           RM.trans {x = V.◌⊞◌ a (V.◌·◌ (A.prime - 1) y)} {y = V.◌⊞◌ (V.◌⊞◌ y w) (V.opposite y)} {z = w}
-          (RM.add_cong {x = a} {x' = V.◌⊞◌ y w} {y = V.◌·◌ (A.prime - 1) y} {y' = V.opposite y} e (opposite_row y))
+          (RM.add_cong {x = a} {x' = V.◌⊞◌ y w} {y = V.◌·◌ (A.prime - 1) y} {y' = V.opposite y} e (opposite_row A.prime W (high A c.curve) (positive_of_prime A.prime c.curve.prime) y))
           (Modules.add_undo_left Scalars RM w y)
           ),
         )
