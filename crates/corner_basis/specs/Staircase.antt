@@ -1,11 +1,12 @@
 -- The monomials that are tried: those that are no leads of an ideal, and its least leads.
-use Rattle.std.specs.Prelude.{◌≡◌, ◌↔◌, ◌⊎◌, ℕ, ◌+◌, ◌-◌, ◌*◌, ◌<◌, ◌≤◌, List, [], length, slice_index_or, Contains}
+use Rattle.std.specs.Prelude.{◌≡◌, ◌↔◌, ◌⊎◌, ℕ, ◌+◌, ◌-◌, ◌*◌, ◌<◌, ◌≤◌, List, [], ◌∷◌, ◌++◌, map, length, slice_index_or, Contains}
 use Rattle.std.specs.declared.cmp.Ordering.TheVariants.{Less}
 use Rattle.monomials.specs.Mono.{Monomial, Divides, cmp_dp, times, total_degree, unit, variable}
 use Rattle.polys.specs.declared.term.Term.{Term}
 use Rattle.polys.specs.Terms.{EachMono, IsAffine, IsPoly, sub}
+use Rattle.polys.specs.Ideal.{number_combination}
 use Rattle.polys.specs.Curve.{CurveData}
-use Rattle.row_space.specs.Subspace.{Subspace}
+use Rattle.row_space.specs.Subspace.{Subspace, IsIn}
 use Rattle.standard_monomials.specs.Standard.{AreMinimal, IsRising, polynomial_of}
 use Rattle.digit_laws.specs.Digits.{HasDigitsIn, IsOfDigits}
 
@@ -60,3 +61,20 @@ pub record IsSearch (n next : ℕ) (queue ss ls : List Monomial) : Type 0 where
 -- an upper bound of the steps that are left: each that adds to the space adds at most six monomials
 abbrev pub steps_left : (room dimension next : ℕ) → List Monomial → ℕ
 steps_left room dimension next queue = 7 * (room - dimension) + (length queue - next)
+
+-- ---- members of the ideal by relations between the monomials
+
+-- the rows of numbers for which the sum of these multiples of the leads, and then of the other monomials, is in the ideal
+pub record AreRelations (A : CurveData) (ms : List Monomial) (t : ℕ) (space : Subspace) (ss ls : List Monomial) (relations : Subspace) : Type 0 where
+  pub prime : relations.prime ≡ A.prime
+  pub width : relations.width ≡ length ls + length ss
+  pub members : (v : List ℕ) → length v ≡ length ls + length ss
+      → IsIn relations v ↔ HasDigitsIn A ms t space (number_combination A.prime v (map polynomial_of (ls ++ ss)))
+
+-- a monic member of the ideal with the lead l, whose other monomials are in ss
+pub record IsTailed (A : CurveData) (ms : List Monomial) (t : ℕ) (space : Subspace) (ss : List Monomial) (l : Monomial) (f : List Term) : Type 0 where
+  pub rest : List Term
+  pub whole : f ≡ record { coeff = 1; mono = l } ∷ rest
+  pub poly : IsPoly A.prime A.variables f
+  pub monos : EachMono (Contains ss) rest
+  pub member : HasDigitsIn A ms t space f
