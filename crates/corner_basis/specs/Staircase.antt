@@ -78,3 +78,8 @@ pub record IsTailed (A : CurveData) (ms : List Monomial) (t : ℕ) (space : Subs
   pub poly : IsPoly A.prime A.variables f
   pub monos : EachMono (Contains ss) rest
   pub member : HasDigitsIn A ms t space f
+
+-- such members, one for each lead
+pub record AreTailed (A : CurveData) (ms : List Monomial) (t : ℕ) (space : Subspace) (ss ls : List Monomial) (fs : List (List Term)) : Type 0 where
+  pub count : length fs ≡ length ls
+  pub each : (i : ℕ) → i < length ls → IsTailed A ms t space ss (slice_index_or ls i unit) (slice_index_or fs i [])
