@@ -1,11 +1,16 @@
 // The reduced basis, by the relations between the monomials.
-ghost use Rattle.std.specs.Prelude.{◌≡◌, ◌≤◌, All, IfOk};
-ghost use Rattle.polys.specs.Poly.{terms_of};
+ghost use Rattle.std.specs.Prelude.{◌≡◌, ◌<◌, ◌≤◌, ◌∷◌, length, map, All, IfOk};
+ghost use Rattle.lane_rows.specs.Rows.{AreResidues};
+ghost use Rattle.polys.specs.Poly.{IsVector, terms_of};
+ghost use Rattle.polys.specs.Ideal.{number_combination};
 ghost use Rattle.polys.specs.Curve.{IsOver};
 ghost use Rattle.polys.specs.Reduced.{IsReducedBasis};
 ghost use Rattle.digit_space.specs.Model.{IsDigitIn, IsIdealIn};
+ghost use Rattle.standard_monomials.specs.Standard.{IsRising, polynomial_of};
 ghost use Rattle.corner_basis.specs.Fronts.{IsFrontIdeal, IsFrontIn};
+ghost use Rattle.corner_basis.specs.Tried.{AreTried, HasRelations, IsFront, IsMember};
 
+use crate::front::Front;
 use crate::staircase::{Staircase, zero_row};
 use digit_space::Digits;
 use lists::{List, NoMemory};
@@ -15,7 +20,7 @@ use prime_field::Prime;
 use row_space::Space;
 use std::alloc::Global;
 
-// The lead with the coefficient 1, and smaller monomials in rising order with these coefficients.
+// The lead with the coefficient 1, and the monomials of the rising list with these coefficients, as far as they are not 0.
 fn with_lower(
     alloc: Global,
     prime: Prime,
@@ -23,6 +28,12 @@ fn with_lower(
     coefficients: &[u32],
     lower: &[Mono],
 ) -> Result<Poly, NoMemory>
+    requires count { length coefficients.now ≡ length lower.now }
+    requires residues { AreResidues prime coefficients.now }
+    requires rising { IsRising lower.now }
+    requires falls { IsVector prime (record { coeff = 1; mono = lead } ∷ number_combination prime coefficients.now (map polynomial_of lower.now)) }
+    ensures prime { IfOk result (λ f. f.prime ≡ prime) }
+    ensures terms { IfOk result (λ f. f.terms ≡ record { coeff = 1; mono = lead } ∷ number_combination prime coefficients.now (map polynomial_of lower.now)) }
 {
     let mut terms = Vec::new(alloc);
     terms.push(Term {
@@ -45,13 +56,21 @@ fn with_lower(
 // The member of the ideal with the lead number `i` whose other monomials are no leads. The relations are those between the
 // leads and then the other monomials.
 fn member(
-    alloc: Global,
+    front: &Front,
     found: &Staircase,
     relations: &Space,
     i: usize,
 ) -> Result<Poly, NoMemory>
+    requires front { IsFront front.now }
+    requires tried { AreTried front.now found.now }
+    requires relations { HasRelations front.now found.now relations.now }
+    requires i { i < length found.now.leads }
+    ensures prime { IfOk result (λ f. f.prime ≡ front.now.digits.now.curve.prime) }
+    ensures member { IfOk result (λ f. IsMember front.now found.now i f.terms) }
 {
+    let alloc = front.digits.allocator();
     let prime = relations.prime();
+    let _rows = relations.rows();
     let leads = found.leads.as_slice();
     let standard = found.standard.as_slice();
     let mut row = zero_row(alloc, leads.len() + standard.len())?;
@@ -77,13 +96,18 @@ pub fn reduced_basis_of_front(
     ensures over { IfOk result (λ qs. All (IsOver digits.now.curve.prime digits.now.curve.variables) qs) }
     ensures reduced { IfOk result (λ qs. IsReducedBasis digits.now.curve.prime digits.now.curve.variables (IsFrontIn digits.now t space.now) (terms_of qs)) }
 {
-    let alloc = digits.allocator();
-    let found = Staircase::of_front(digits, t, space)?;
-    let matrix = found.matrix(alloc, digits.basis().len() * t as usize)?;
+    let front = Front {
+        digits,
+        blocks: t,
+        space,
+    };
+    let _rows = space.rows();
+    let found = Staircase::of_front(&front)?;
+    let matrix = found.matrix(&front)?;
     let relations = space.preimage(matrix.as_slice())?;
-    let mut basis = List::new(alloc);
+    let mut basis = List::new(digits.allocator());
     for i in 0..found.leads.len() {
-        basis.push(member(alloc, &found, &relations, i)?)?;
+        basis.push(member(&front, &found, &relations, i)?)?;
     }
     Ok(basis)
 }

@@ -6,10 +6,9 @@
 #![tactic(auto)]
 
 mod basis;
+mod front;
 mod queue;
 mod staircase;
 
 pub use basis::{reduced_basis_of, reduced_basis_of_front};
 
-#[cfg(test)]
-mod tests;

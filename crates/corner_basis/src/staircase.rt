@@ -7,9 +7,10 @@ ghost use Rattle.polys.specs.Curve.{data_of};
 ghost use Rattle.row_space.specs.Subspace.{FitsIn};
 ghost use Rattle.standard_monomials.specs.Standard.{IsRising, polynomial_of};
 ghost use Rattle.digit_space.specs.Model.{IsDigitsOf};
-ghost use Rattle.corner_basis.specs.Fronts.{IsFrontIdeal};
-ghost use Rattle.corner_basis.specs.Staircase.{AreTried, HasDivisor, HaveDigits, IsNew};
+ghost use Rattle.corner_basis.specs.Staircase.{HasDivisor, IsPassed};
+ghost use Rattle.corner_basis.specs.Tried.{AreTried, HaveDigits, IsFront, IsNew, IsPutLead, IsPutStandard, IsSearched, left};
 
+use crate::front::Front;
 use crate::queue::insert_multiples;
 use digit_space::Digits;
 use lists::{List, NoMemory};
@@ -103,16 +104,15 @@ fn add_fronts(
 
 impl Staircase {
     // No monomial is tried.
-    fn new(digits: &Digits, t: u32, space: &Space) -> Result<Staircase, NoMemory>
-        requires t { t ≤ digits.now.depth }
-        requires ideal { IsFrontIdeal digits.now t space.now }
-        ensures tried { IfOk result (λ s. AreTried digits.now t space.now s) }
+    fn new(front: &Front) -> Result<Staircase, NoMemory>
+        requires { IsFront front.now }
+        ensures tried { IfOk result (λ s. AreTried front.now s) }
         ensures none { IfOk result (λ s. (s.standard ≡ []) × (s.leads ≡ [])) }
     {
-        let alloc = digits.allocator();
-        let entries = digits.basis().len() * t as usize;
-        let mut span = Space::new(alloc, space.prime(), entries);
-        span.add_rows(space.rows())?;
+        let alloc = front.digits.allocator();
+        let mut span = Space::new(alloc, front.space.prime(), front.entries());
+        span.add_rows(front.space.rows())?;
+        let _rows = span.rows();
         Ok(Staircase {
             standard: List::new(alloc),
             standard_rows: List::new(alloc),
@@ -125,6 +125,7 @@ impl Staircase {
     // The digits of the monomial.
     fn row_of(&self, digits: &Digits, m: &Mono) -> Result<List<u32>, NoMemory>
         requires affine { IsAffine digits.now.curve.variables m.now }
+        requires standard { All (IsAffine digits.now.curve.variables) self.now.standard }
         requires rising { IsRising self.now.standard }
         requires rows { HaveDigits digits.now self.now.standard self.now.standard_rows }
         ensures { IfOk result (λ row. IsDigitsOf digits.now (polynomial_of m.now) row) }
@@ -148,29 +149,19 @@ impl Staircase {
 
     // Puts the monomial, which has these digits, to those that are no leads, or to the leads; the answer is whether it is no
     // lead.
-    fn put(
-        &mut self,
-        digits: &Digits,
-        t: u32,
-        _space: &Space,
-        m: Mono,
-        row: List<u32>,
-    ) -> Result<bool, NoMemory>
-        requires t { t ≤ digits.now.depth }
-        requires ideal { IsFrontIdeal digits.now t _space.now }
-        requires tried { AreTried digits.now t _space.now self.old }
-        requires new { IsNew digits.now self.old m }
-        requires row { IsDigitsOf digits.now (polynomial_of m) row }
-        ensures tried { OnOk result (AreTried digits.now t _space.now self.new) }
-        ensures put { IfOk result (λ standard. MatchBool standard
-            ((self.new.standard ≡ self.old.standard ++ m ∷ []) × (self.new.leads ≡ self.old.leads))
-            ((self.new.standard ≡ self.old.standard) × (self.new.leads ≡ self.old.leads ++ m ∷ []))) }
+    fn put(&mut self, front: &Front, m: Mono, row: List<u32>) -> Result<bool, NoMemory>
+        requires front { IsFront front.now }
+        requires tried { AreTried front.now self.old }
+        requires new { IsNew front.now.digits.now.curve.variables self.old m }
+        requires row { IsDigitsOf front.now.digits.now (polynomial_of m) row }
+        ensures tried { OnOk result (AreTried front.now self.new) }
+        ensures put { IfOk result (λ standard. MatchBool standard (IsPutStandard m self.old self.new) (IsPutLead m self.old self.new)) }
     {
-        let entries = digits.basis().len() * t as usize;
-        match self.span.insert(&row.as_slice()[..entries])? {
+        match self.span.insert(&row.as_slice()[..front.entries()])? {
             Insert::Inserted => {
                 self.standard.push(m)?;
                 self.standard_rows.push(row)?;
+                let _rows = self.span.rows();
                 Ok(true)
             }
             Insert::Dependent(_) => {
@@ -181,46 +172,58 @@ impl Staircase {
         }
     }
 
-    // Tries the monomial, unless a lead divides it. Where it is no lead, its multiples by the variables are to be tried.
+    // Tries the monomial number `next` of the queue, unless a lead divides it. Where it is no lead, its multiples by the
+    // variables join the queue.
     fn visit(
         &mut self,
-        digits: &Digits,
-        t: u32,
-        space: &Space,
-        m: Mono,
+        front: &Front,
+        next: usize,
         queue: &mut Vec<Mono>,
     ) -> Result<(), NoMemory>
+        requires front { IsFront front.now }
+        requires tried { AreTried front.now self.old }
+        requires search { IsSearched front.now next queue.old.items self.old }
+        requires next { next < length queue.old.items }
+        ensures tried { OnOk result (AreTried front.now self.new) }
+        ensures search { OnOk result (IsSearched front.now (next + 1) queue.new.items self.new) }
+        ensures fewer { OnOk result (left front.now (next + 1) queue.new.items self.new < left front.now next queue.old.items self.old) }
     {
+        let m = queue[next];
         if has_divisor(self.leads.as_slice(), &m) {
             return Ok(());
         }
-        let row = self.row_of(digits, &m)?;
-        if self.put(digits, t, space, m, row)? {
-            insert_multiples(digits.curve().variables, m, queue)?;
+        let row = self.row_of(front.digits, &m)?;
+        if self.put(front, m, row)? {
+            insert_multiples(front.digits.curve().variables, m, queue)?;
         }
         Ok(())
     }
 
     // All monomials that are no leads, and all least leads.
-    pub(crate) fn of_front(digits: &Digits, t: u32, space: &Space) -> Result<Staircase, NoMemory>
-        requires t { t ≤ digits.now.depth }
-        requires ideal { IsFrontIdeal digits.now t space.now }
+    pub(crate) fn of_front(front: &Front) -> Result<Staircase, NoMemory>
+        requires { IsFront front.now }
+        ensures tried { IfOk result (λ s. AreTried front.now s) }
+        ensures whole { IfOk result (λ s. (m : Monomial) → IsAffine front.now.digits.now.curve.variables m → IsPassed s.standard s.leads m) }
     {
-        let mut found = Staircase::new(digits, t, space)?;
-        let mut queue = Vec::new(digits.allocator());
+        let mut found = Staircase::new(front)?;
+        let mut queue = Vec::new(front.digits.allocator());
         queue.push(Mono::one())?;
         let mut next = 0;
         while next < queue.len() {
-            let m = queue[next];
-            found.visit(digits, t, space, m, &mut queue)?;
+            found.visit(front, next, &mut queue)?;
             next += 1;
         }
         Ok(found)
     }
 
-    // The first entries of the digits of the leads, and then those of the other monomials.
-    pub(crate) fn matrix(&self, alloc: Global, entries: usize) -> Result<List<List<u32>>, NoMemory>
+    // The first blocks of the digits of the leads, and then of those of the other monomials.
+    pub(crate) fn matrix(&self, front: &Front) -> Result<List<List<u32>>, NoMemory>
+        requires front { IsFront front.now }
+        requires tried { AreTried front.now self.now }
+        ensures { IfOk result (λ rows. rows ≡ map (take (length front.now.digits.now.basis * front.now.blocks)) (self.now.lead_rows ++ self.now.standard_rows)) }
     {
+        let alloc = front.digits.allocator();
+        let entries = front.entries();
         let mut matrix = List::new(alloc);
         add_fronts(alloc, self.lead_rows.as_slice(), entries, &mut matrix)?;
         add_fronts(alloc, self.standard_rows.as_slice(), entries, &mut matrix)?;
