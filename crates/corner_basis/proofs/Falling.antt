@@ -2,7 +2,8 @@
 use Rattle.std.proofs.Common.{◌≡◌, ◌≢◌, ℕ, ◌+◌, ◌-◌, ◌*◌, ◌%◌, ◌<◌, ◌≤◌, List, [], ◌∷◌, ◌++◌, map, length, get_or, drop, All, refl, sym, ap, ap₂, ◌∙◌, subst, arith, mod-eq_of_lt, get_or-drop}
 use Rattle.std.specs.List.{Contains}
 use Rattle.std.specs.declared.cmp.Ordering.TheVariants.{Less}
-use Rattle.std.proofs.lemmas.List.{drop_more, get_or_default, length-drop}
+use Rattle.std.proofs.lemmas.List.{drop_all, drop_more, get_or_default, length-drop}
+use native.Mathlib.Decide.{ℕ_discrete}
 use Rattle.monomials.specs.Mono.{Monomial, cmp_dp, unit}
 use Rattle.polys.specs.declared.term.Term.{Term}
 use Rattle.polys.specs.Terms.{EachMono, IsCanonical, keep, put, put_by, add, multiple}
@@ -66,3 +67,31 @@ module _ (p : ℕ) (cs : List ℕ) (ws : List Monomial) (count : length cs ≡ l
 
   pub from_some : get_or cs i 0 ≢ 0 → from p i cs ws ≡ from p (i + 1) cs ws ++ record { coeff = get_or cs i 0; mono = get_or ws i unit } ∷ []
   from_some n = opened ∙ one_more p (get_or cs i 0) (get_or ws i unit) (from p (i + 1) cs ws) small n canonical below
+
+-- the loop begins behind the last monomial
+pub from_end : (p i : ℕ) (cs : List ℕ) (ws : List Monomial) → length cs ≤ i → from p i cs ws ≡ []
+from_end p i cs ws l = ap (λ z. number_combination p z (map polynomial_of (drop i ws))) (drop_all i cs l)
+
+-- one step of the loop
+pub next_terms : (p : ℕ) (cs : List ℕ) (ws : List Monomial) → length cs ≡ length ws → All (λ e. e < p) cs → IsRising ws → (i : ℕ) → 0 < i → i ≤ length ws
+    → (head t : Term) (old new : List Term) → t.coeff ≡ get_or cs (i - 1) 0 → t.mono ≡ get_or ws (i - 1) t.mono → old ≡ head ∷ from p i cs ws → (t.coeff ≡ 0 → new ≡ old)
+    → (t.coeff ≢ 0 → new ≡ old ++ t ∷ []) → new ≡ head ∷ from p (i - 1) cs ws
+next_terms p cs ws count residues rising i some low head t old new c m e zero other = go (ℕ_discrete t.coeff 0)
+  where
+    one : (i - 1) + 1 ≡ i
+    one = omega arith
+
+    here : from p i cs ws ≡ from p ((i - 1) + 1) cs ws
+    here = ap (λ z. from p z cs ws) (sym one)
+
+    inside : i - 1 < length ws
+    inside = omega arith
+
+    is : t ≡ record { coeff = get_or cs (i - 1) 0; mono = get_or ws (i - 1) unit }
+    is = let q : t.mono ≡ get_or ws (i - 1) unit = m ∙ get_or_default ws (i - 1) t.mono unit inside in λ j. record { coeff = c j; mono = q j }
+
+    go : Dec (t.coeff ≡ 0) → new ≡ head ∷ from p (i - 1) cs ws
+    go (yes z) = zero z ∙ e ∙ ap (λ x. head ∷ x) (here ∙ sym (from_zero p cs ws count residues rising (i - 1) inside (sym c ∙ z)))
+    go (no n) =
+        other n ∙ ap (λ x. x ++ t ∷ []) (e ∙ ap (λ x. head ∷ x) here) ∙ ap (λ x. (head ∷ from p ((i - 1) + 1) cs ws) ++ x ∷ []) is
+        ∙ ap (λ x. head ∷ x) (sym (from_some p cs ws count residues rising (i - 1) inside (λ z. n (c ∙ z))))

@@ -87,7 +87,7 @@ digits_push g ws rows m row h d = record {
         subst (λ z. IsDigitsOf g (polynomial_of z) (get_or (rows ++ row ∷ []) i [])) (sym (get_or_append_left ws (m ∷ []) unit i a))
         (subst (IsDigitsOf g (polynomial_of (get_or ws i unit))) (sym (get_or_append_left rows (row ∷ []) [] i (let c = h.count in omega arith))) (h.digits i a)))
         (λ (a : length ws ≤ i).
-        let e : i ≡ length ws = (let q = length_push ws m in omega arith) in
+        let e : length ws ≡ i = (let q = length_push ws m in omega arith) in
         subst (λ z. IsDigitsOf g (polynomial_of z) (get_or (rows ++ row ∷ []) i [])) (sym (get_or_push ws m unit i e))
         (subst (IsDigitsOf g (polynomial_of m)) (sym (get_or_push rows row [] i (let c = h.count in omega arith))) d))
         (cases_lt i (length ws))

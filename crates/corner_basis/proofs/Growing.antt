@@ -128,7 +128,7 @@ module _ (A : CurveData) (c : IsFinite A) (ms : List Monomial) (k : AreCornersOf
       }
 
   module _ (space span : Subspace) (ss ls : List Monomial) (h : IsStaircase A ms T space span ss ls) (m : Monomial) (affine : IsAffine A.variables m)
-      (above : (w : Monomial) → IsAmong ss ls w → cmp_dp w m ≡ Less) (outside : HasDivisor ls m → ⊥) (row : List ℕ) (digits : AreDigits A ms T (polynomial_of m) row) where
+      (above : (w : Monomial) → IsAmong ss ls w → cmp_dp w m ≡ Less) (outside : HasDivisor ls m → ⊥) (low : total_degree m.exponents ≤ length ss) (row : List ℕ) (digits : AreDigits A ms T (polynomial_of m) row) where
     abbrev x : List Term
     x = polynomial_of m
 
@@ -138,7 +138,7 @@ module _ (A : CurveData) (c : IsFinite A) (ms : List Monomial) (k : AreCornersOf
     positive : 0 < A.prime
     positive = pos A c ms k T
 
-    module _ (new : Subspace) (low : total_degree m.exponents ≤ length ss) (apart : IsIn span row → ⊥) (g : Gains span row new) (room : length new.basis ≤ W A c ms k T) where
+    module _ (new : Subspace) (apart : IsIn span row → ⊥) (g : Gains span row new) (room : length new.basis ≤ W A c ms k T) where
       abbrev more : List Monomial
       more = ss ++ m ∷ []
 
@@ -226,6 +226,7 @@ module _ (A : CurveData) (c : IsFinite A) (ms : List Monomial) (k : AreCornersOf
         minimal = h.minimal;
         outside = λ s d q. not_multiple s q (Contains-push_cases ss m s d);
         low = λ s d. low_one s (Contains-push_cases ss m s d);
+        reach = λ l d. (let a = h.reach l d in let q = length_push ss m in omega arith);
         free = free;
         reducible = λ l d. let q = h.reducible l d in record {
           sum = q.sum;
@@ -278,6 +279,7 @@ module _ (A : CurveData) (c : IsFinite A) (ms : List Monomial) (k : AreCornersOf
         minimal = pairs_last (λ a b. (cmp_dp a b ≡ Less) × (Divides a b → ⊥)) ls m h.minimal (λ w d. (above w (inr d), λ q. outside (w, d, q)));
         outside = λ s d q. not_multiple s d q (Contains-push_cases ls m q.0 q.1);
         low = h.low;
+        reach = λ l d. far l (Contains-push_cases ls m l d);
         free = h.free;
         reducible = λ l d. one l (Contains-push_cases ls m l d);
         of_digits = h.of_digits;
@@ -298,6 +300,10 @@ module _ (A : CurveData) (c : IsFinite A) (ms : List Monomial) (k : AreCornersOf
           not_multiple s d q (inl e) = h.outside s d (q.0, e, q.2)
           not_multiple s d q (inr e) =
               no_smaller_multiple m s (affine.seven ∙ sym (h.affine s (inl d)).seven) (subst (λ z. Divides z s) (sym e) q.2) (above s (inl d))
+
+          far : (l : Monomial) → Contains ls l ⊎ (m ≡ l) → total_degree l.exponents ≤ length ss
+          far l (inl d) = h.reach l d
+          far l (inr e) = subst (λ z. total_degree z.exponents ≤ length ss) e low
 
           one : (l : Monomial) → Contains ls l ⊎ (m ≡ l) → IsReducible A ms T space ss l
           one l (inl d) = h.reducible l d

@@ -5,3 +5,7 @@ mod Growing
 mod Search
 mod Relations
 mod Reduced
+mod Falling
+mod Started
+mod Fronts
+mod Tried

@@ -77,6 +77,7 @@ module _ (A : CurveData) (c : IsFinite A) (ms : List Monomial) (k : AreCornersOf
     minimal = λ a b d x y. absurd (omega arith);
     outside = λ s d q. contains_none s d;
     low = λ s d. absurd (contains_none s d);
+    reach = λ l d. absurd (contains_none l d);
     free = λ h hh e i. only_none h e;
     reducible = λ l d. absurd (contains_none l d);
     of_digits = of_digits;

@@ -6,7 +6,7 @@ use Rattle.polys.specs.declared.term.Term.{Term}
 use Rattle.polys.specs.Terms.{EachMono, IsAffine, IsPoly, sub}
 use Rattle.polys.specs.Ideal.{number_combination}
 use Rattle.polys.specs.Curve.{CurveData}
-use Rattle.row_space.specs.Subspace.{Subspace, IsIn}
+use Rattle.row_space.specs.Subspace.{Subspace, DifferIn, FitsIn, IsIn, IsZeroAtPivots}
 use Rattle.standard_monomials.specs.Standard.{AreMinimal, IsRising, polynomial_of}
 use Rattle.digit_laws.specs.Digits.{HasDigitsIn, IsOfDigits}
 
@@ -37,6 +37,7 @@ pub record IsStaircase (A : CurveData) (ms : List Monomial) (t : ℕ) (space spa
   pub minimal : AreMinimal ls
   pub outside : (s : Monomial) → Contains ss s → HasDivisor ls s → ⊥
   pub low : (s : Monomial) → Contains ss s → total_degree s.exponents < length ss
+  pub reach : (l : Monomial) → Contains ls l → total_degree l.exponents ≤ length ss
   pub free : (h : List Term) → IsPoly A.prime A.variables h → EachMono (Contains ss) h → HasDigitsIn A ms t space h → h ≡ []
   pub reducible : (l : Monomial) → Contains ls l → IsReducible A ms t space ss l
   pub of_digits : IsOfDigits A ms t span
@@ -70,6 +71,10 @@ pub record AreRelations (A : CurveData) (ms : List Monomial) (t : ℕ) (space : 
   pub width : relations.width ≡ length ls + length ss
   pub members : (v : List ℕ) → length v ≡ length ls + length ss
       → IsIn relations v ↔ HasDigitsIn A ms t space (number_combination A.prime v (map polynomial_of (ls ++ ss)))
+
+-- each row that differs from the given one by a relation, and is 0 at the pivots, is this one
+abbrev pub IsNormalRow : Subspace → List ℕ → List ℕ → Type 0
+IsNormalRow relations row normal = (other : List ℕ) → FitsIn relations other → DifferIn relations row other → IsZeroAtPivots relations other → other ≡ normal
 
 -- a monic member of the ideal with the lead l, whose other monomials are in ss
 pub record IsTailed (A : CurveData) (ms : List Monomial) (t : ℕ) (space : Subspace) (ss : List Monomial) (l : Monomial) (f : List Term) : Type 0 where

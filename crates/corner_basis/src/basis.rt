@@ -1,5 +1,5 @@
 // The reduced basis, by the relations between the monomials.
-ghost use Rattle.std.specs.Prelude.{◌≡◌, ◌<◌, ◌≤◌, ◌∷◌, length, map, All, IfOk};
+ghost use Rattle.std.specs.Prelude.{◌≡◌, ◌≢◌, ◌<◌, ◌≤◌, [], ◌∷◌, ◌++◌, ◌-◌, length, map, replicate, slice_set, All, IfOk, OnOk};
 ghost use Rattle.lane_rows.specs.Rows.{AreResidues};
 ghost use Rattle.polys.specs.Poly.{IsVector, terms_of};
 ghost use Rattle.polys.specs.Ideal.{number_combination};
@@ -8,6 +8,8 @@ ghost use Rattle.polys.specs.Reduced.{IsReducedBasis};
 ghost use Rattle.digit_space.specs.Model.{IsDigitIn, IsIdealIn};
 ghost use Rattle.standard_monomials.specs.Standard.{IsRising, polynomial_of};
 ghost use Rattle.corner_basis.specs.Fronts.{IsFrontIdeal, IsFrontIn};
+ghost use Rattle.row_space.specs.Subspace.{FitsIn};
+ghost use Rattle.corner_basis.specs.Staircase.{IsNormalRow};
 ghost use Rattle.corner_basis.specs.Tried.{AreTried, HasRelations, IsFront, IsMember};
 
 use crate::front::Front;
@@ -19,6 +21,17 @@ use polys::{Poly, Term};
 use prime_field::Prime;
 use row_space::Space;
 use std::alloc::Global;
+
+// Puts the term at the end, unless its coefficient is 0.
+fn push_some(terms: &mut Vec<Term>, term: Term) -> Result<(), NoMemory>
+    ensures zero { OnOk result (term.coeff ≡ 0 → terms.new.items ≡ terms.old.items) }
+    ensures other { OnOk result (term.coeff ≢ 0 → terms.new.items ≡ terms.old.items ++ term ∷ []) }
+{
+    if term.coeff != 0 {
+        terms.push(term)?;
+    }
+    Ok(())
+}
 
 // The lead with the coefficient 1, and the monomials of the rising list with these coefficients, as far as they are not 0.
 fn with_lower(
@@ -43,14 +56,45 @@ fn with_lower(
     let mut i = lower.len();
     while i > 0 {
         i -= 1;
-        if coefficients[i] != 0 {
-            terms.push(Term {
-                coeff: coefficients[i],
-                mono: lower[i],
-            })?;
-        }
+        let term = Term {
+            coeff: coefficients[i],
+            mono: lower[i],
+        };
+        push_some(&mut terms, term)?;
     }
     Ok(Poly::of_terms(prime, terms))
+}
+
+// The row that is -1 at the place and 0 elsewhere.
+fn negative_unit(
+    alloc: Global,
+    prime: Prime,
+    length: usize,
+    place: usize,
+) -> Result<Vec<u32>, NoMemory>
+    requires { place < length }
+    ensures { IfOk result (λ row. row.items ≡ slice_set (replicate length 0) place (prime - 1)) }
+{
+    let mut row = zero_row(alloc, length)?;
+    row[place] = prime.get() - 1;
+    Ok(row)
+}
+
+// The one row that differs by a relation from the row that is -1 at the place, and is 0 at every pivot.
+fn normal_row(
+    alloc: Global,
+    relations: &Space,
+    length: usize,
+    place: usize,
+) -> Result<List<u32>, NoMemory>
+    requires width { relations.now.width ≡ length }
+    requires place { place < length }
+    ensures fits { IfOk result (λ row. FitsIn relations.now row) }
+    ensures only { IfOk result (λ row. IsNormalRow relations.now (slice_set (replicate length 0) place (relations.now.prime - 1)) row) }
+{
+    let mut row = negative_unit(alloc, relations.prime(), length, place)?;
+    relations.reduce(row.as_mut_slice());
+    Ok(List::of_vec(row))
 }
 
 // The member of the ideal with the lead number `i` whose other monomials are no leads. The relations are those between the
@@ -69,14 +113,13 @@ fn member(
     ensures member { IfOk result (λ f. IsMember front.now found.now i f.terms) }
 {
     let alloc = front.digits.allocator();
-    let prime = relations.prime();
+    let _entries = front.entries();
     let _rows = relations.rows();
     let leads = found.leads.as_slice();
     let standard = found.standard.as_slice();
-    let mut row = zero_row(alloc, leads.len() + standard.len())?;
-    row[i] = prime.get() - 1;
-    relations.reduce(row.as_mut_slice());
-    with_lower(alloc, prime, leads[i], &row.as_slice()[leads.len()..], standard)
+    let row = normal_row(alloc, relations, leads.len() + standard.len(), i)?;
+    let coefficients = &row.as_slice()[leads.len()..];
+    with_lower(alloc, relations.prime(), leads[i], coefficients, standard)
 }
 
 /// The reduced basis of the ideal of all polynomials whose first `t` blocks of digits are in the space, a space of rows of N t

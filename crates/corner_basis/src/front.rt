@@ -1,5 +1,6 @@
 // An ideal by its first blocks of digits.
 ghost use Rattle.std.specs.Prelude.{◌≡◌, ◌*◌, ◌≤◌, length};
+ghost use Rattle.digit_space.specs.Model.{IsDigitSpace};
 ghost use Rattle.corner_basis.specs.Tried.{IsFront};
 
 use digit_space::Digits;
@@ -19,6 +20,7 @@ impl Front<'_> {
         requires { IsFront self.now }
         ensures value { result ≡ length self.now.digits.now.basis * self.now.blocks }
         ensures small { result ≤ 51200 }
+        ensures known { IsDigitSpace self.now.digits.now }
     {
         self.digits.basis().len() * self.blocks as usize
     }

@@ -6,7 +6,7 @@ ghost use Rattle.polys.specs.Terms.{IsAffine};
 ghost use Rattle.polys.specs.Curve.{data_of};
 ghost use Rattle.row_space.specs.Subspace.{FitsIn};
 ghost use Rattle.standard_monomials.specs.Standard.{IsRising, polynomial_of};
-ghost use Rattle.digit_space.specs.Model.{IsDigitsOf};
+ghost use Rattle.digit_space.specs.Model.{IsDigitRow, IsDigitsOf, times_variable, value_of};
 ghost use Rattle.corner_basis.specs.Staircase.{HasDivisor, IsPassed};
 ghost use Rattle.corner_basis.specs.Tried.{AreTried, HaveDigits, IsFront, IsNew, IsPutLead, IsPutStandard, IsSearched, left};
 
@@ -86,6 +86,17 @@ pub(crate) fn zero_row(alloc: Global, length: usize) -> Result<Vec<u32>, NoMemor
     Ok(vec![in alloc; 0u32; length]?)
 }
 
+// The digits of the variable `v` times the row's polynomial.
+fn variable_multiple(digits: &Digits, v: u32, row: &[u32]) -> Result<List<u32>, NoMemory>
+    requires v { v < digits.now.curve.variables }
+    requires row { IsDigitRow digits.now row.now }
+    ensures { IfOk result (λ made. IsDigitsOf digits.now (times_variable digits.now v (value_of digits.now row.now)) made) }
+{
+    let mut made = zero_row(digits.allocator(), row.len())?;
+    digits.times_var(v, row, made.as_mut_slice());
+    Ok(List::of_vec(made))
+}
+
 // Adds the first entries of each row, so many of them, to the list.
 fn add_fronts(
     alloc: Global,
@@ -132,13 +143,11 @@ impl Staircase {
     {
         let alloc = digits.allocator();
         let curve = digits.curve();
+        let _corners = digits.basis();
         match find_parent(self.standard.as_slice(), curve.variables, m) {
             Some(p) => {
-                let entries = digits.basis().len() * digits.depth() as usize;
-                let mut row = zero_row(alloc, entries)?;
                 let before = self.standard_rows.as_slice()[p.place].as_slice();
-                digits.times_var(p.variable, before, row.as_mut_slice());
-                Ok(List::of_vec(row))
+                variable_multiple(digits, p.variable, before)
             }
             None => {
                 let term = Term { coeff: 1, mono: *m };
@@ -188,6 +197,7 @@ impl Staircase {
         ensures search { OnOk result (IsSearched front.now (next + 1) queue.new.items self.new) }
         ensures fewer { OnOk result (left front.now (next + 1) queue.new.items self.new < left front.now next queue.old.items self.old) }
     {
+        let _entries = front.entries();
         let m = queue[next];
         if has_divisor(self.leads.as_slice(), &m) {
             return Ok(());
