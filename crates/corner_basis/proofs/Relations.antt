@@ -37,7 +37,7 @@ use Rattle.corner_basis.proofs.Numbers.{behind_zeros, difference_sum, numbers_of
 use Rattle.corner_basis.proofs.Leads.{lead_stays}
 use Rattle.corner_basis.proofs.Classes.{pos, P, W, laws, Span, RM, Scalars, In, up, down, k_multiple, k_row}
 
-all_of : {X : Type 0} (R : X → Type 0) (xs : List X) → ((x : X) → Contains xs x → R x) → All R xs
+pub all_of : {X : Type 0} (R : X → Type 0) (xs : List X) → ((x : X) → Contains xs x → R x) → All R xs
 all_of R xs h = All-weaker (Contains xs) R h xs (All-contains_itself xs)
 
 module _ (C : CommRing) where

@@ -1,7 +1,7 @@
 -- The monomials that the program has tried: before the first, after one more, and what the relations between them give.
-use Rattle.std.proofs.Common.{◌≡◌, ◌⊎◌, inl, inr, ◌↔◌, ℕ, ◌+◌, ◌-◌, ◌*◌, ◌<◌, ◌≤◌, List, [], ◌∷◌, ◌++◌, map, length, get_or, set, take, drop, replicate, All, refl, sym, ap, ◌∙◌, subst, arith}
+use Rattle.std.proofs.Common.{◌≡◌, ◌⊎◌, inl, inr, ◌↔◌, ℕ, ◌+◌, ◌-◌, ◌*◌, ◌<◌, ◌≤◌, List, [], ◌∷◌, ◌++◌, map, length, get_or, set, take, drop, replicate, All, refl, sym, ap, ap₂, ◌∙◌, subst, arith}
 use Rattle.std.specs.List.{Contains}
-use Rattle.std.proofs.lemmas.List.{get_or_default, length-append, length-map}
+use Rattle.std.proofs.lemmas.List.{get_or_default, length-append, length-drop, length-map, take_all}
 use Rattle.std.proofs.lemmas.List.Elements.{All-from_get_or, Contains-append_cases}
 use Rattle.monomials.specs.Mono.{Monomial, IsMono, total_degree, unit}
 use Rattle.polys.specs.declared.term.Term.{Term}
@@ -17,7 +17,7 @@ use Rattle.standard_monomials.specs.Standard.{polynomial_of}
 use Rattle.digit_laws.specs.Digits.{AreDigits, IsOfDigits}
 use Rattle.digit_space.specs.Model.{DigitData, IsDigitSpace, IsDigitsOf}
 use Rattle.corner_basis.specs.Fronts.{IsFrontIn}
-use Rattle.corner_basis.specs.Staircase.{AreTailed, HasDivisor, IsAmong, IsPassed, IsStaircase}
+use Rattle.corner_basis.specs.Staircase.{HasDivisor, IsNormalRow, IsPassed, IsStaircase}
 use Rattle.corner_basis.specs.Tried.{AreTried, HasRelations, HaveDigits, IsFront, IsMember, IsNew, IsSearched}
 use Rattle.corner_basis.specs.declared.front.Front.{Front}
 use Rattle.corner_basis.specs.declared.staircase.Staircase.{Staircase}
@@ -118,35 +118,43 @@ module _ (f : Front) (i : IsFront f) (s : IsDigitSpace f.digits.now) where
         pick w (inl d) = h.monomials.affine w (inr d)
         pick w (inr d) = h.monomials.affine w (inl d)
 
-    pub has_relations : (matrix : List (List ℕ)) (relations : Subspace) → matrix ≡ map (take (length f.digits.now.basis * f.blocks)) (old.lead_rows ++ old.standard_rows)
-        → relations.prime ≡ f.space.now.prime → relations.width ≡ length matrix
-        → ((v : List ℕ) → length v ≡ length matrix → IsIn relations v ↔ IsIn f.space.now (product f.space.now.prime f.space.now.width v matrix)) → HasRelations f old relations
-    has_relations matrix relations e prime width members = record {
-      prime = prime ∙ o.prime;
-      width = width ∙ many;
-      members = λ v l.
-          let one = members v (l ∙ sym many) in
-          let two = related A c g.basis s.corners f.blocks f.space.now o v (old.leads ++ old.standard) matrix (many ∙ sym (length-append old.leads old.standard)) affine_all rows in
-          (λ x. two.0 (one.0 x), λ x. one.1 (two.1 x));
-    }
-      where
-        many : length matrix ≡ length old.leads + length old.standard
-        many =
-            let a = length-map (old.lead_rows ++ old.standard_rows) (take (length f.digits.now.basis * f.blocks)) in
-            let b = length-append old.lead_rows old.standard_rows in
-            let x = h.lead_rows.count in
-            let y = h.standard_rows.count in
-            let z : length matrix ≡ length (map (take (length f.digits.now.basis * f.blocks)) (old.lead_rows ++ old.standard_rows)) = ap length e in
-            omega arith
+    module _ (matrix : List (List ℕ)) (e : matrix ≡ map (take (length f.digits.now.basis * f.blocks)) (old.lead_rows ++ old.standard_rows)) where
+      many : length matrix ≡ length old.leads + length old.standard
+      many =
+          let a = length-map (old.lead_rows ++ old.standard_rows) (take (length f.digits.now.basis * f.blocks)) in
+          let b = length-append old.lead_rows old.standard_rows in
+          let x = h.lead_rows.count in
+          let y = h.standard_rows.count in
+          let z : length matrix ≡ length (map (take (length f.digits.now.basis * f.blocks)) (old.lead_rows ++ old.standard_rows)) = ap length e in
+          omega arith
 
-        front_of : (ws : List Monomial) (xs : List (List ℕ)) → HaveDigits f.digits.now ws xs → ((w : Monomial) → Contains ws w → IsAffine f.digits.now.curve.variables w)
-            → (j : ℕ) → j < length ws → AreDigits A g.basis f.blocks (polynomial_of (get_or ws j unit)) (take (length f.digits.now.basis * f.blocks) (get_or xs j []))
-        front_of ws xs d a j l = front_digits f.digits.now s f.blocks i.shallow (get_or ws j unit) (a (get_or ws j unit) (j, l, get_or_default ws j (get_or ws j unit) unit l)) (get_or xs j []) (d.digits j l)
+      front_of : (ws : List Monomial) (xs : List (List ℕ)) → HaveDigits f.digits.now ws xs → ((w : Monomial) → Contains ws w → IsAffine f.digits.now.curve.variables w)
+          → (j : ℕ) → j < length ws → AreDigits A g.basis f.blocks (polynomial_of (get_or ws j unit)) (take (length f.digits.now.basis * f.blocks) (get_or xs j []))
+      front_of ws xs d a j l = front_digits f.digits.now s f.blocks i.shallow (get_or ws j unit) (a (get_or ws j unit) (j, l, get_or_default ws j (get_or ws j unit) unit l)) (get_or xs j []) (d.digits j l)
 
-        rows : (j : ℕ) → j < length (old.leads ++ old.standard) → AreDigits A g.basis f.blocks (polynomial_of (get_or (old.leads ++ old.standard) j unit)) (get_or matrix j [])
-        rows = subst (λ z. (j : ℕ) → j < length (old.leads ++ old.standard) → AreDigits A g.basis f.blocks (polynomial_of (get_or (old.leads ++ old.standard) j unit)) (get_or z j [])) (sym e)
-            (rows_together A g.basis f.blocks (length f.digits.now.basis * f.blocks) old.leads old.standard old.lead_rows old.standard_rows h.lead_rows.count h.standard_rows.count
-            (front_of old.leads old.lead_rows h.lead_rows (λ w d. h.monomials.affine w (inr d))) (front_of old.standard old.standard_rows h.standard_rows (λ w d. h.monomials.affine w (inl d))))
+      rows : (j : ℕ) → j < length (old.leads ++ old.standard) → AreDigits A g.basis f.blocks (polynomial_of (get_or (old.leads ++ old.standard) j unit)) (get_or matrix j [])
+      rows = subst (λ z. (j : ℕ) → j < length (old.leads ++ old.standard) → AreDigits A g.basis f.blocks (polynomial_of (get_or (old.leads ++ old.standard) j unit)) (get_or z j [])) (sym e)
+          (rows_together A g.basis f.blocks (length f.digits.now.basis * f.blocks) old.leads old.standard old.lead_rows old.standard_rows h.lead_rows.count h.standard_rows.count
+          (front_of old.leads old.lead_rows h.lead_rows (λ w d. h.monomials.affine w (inr d))) (front_of old.standard old.standard_rows h.standard_rows (λ w d. h.monomials.affine w (inl d))))
+
+      pub matrix_fits : All (FitsIn f.space.now) matrix
+      matrix_fits = All-from_get_or (FitsIn f.space.now) matrix [] each
+        where
+          each : (j : ℕ) → j < length matrix → FitsIn f.space.now (get_or matrix j [])
+          each j l =
+              let d = rows j (let n = many in let m = length-append old.leads old.standard in omega arith) in
+              (d.fits.0 ∙ sym o.width, subst (λ p. All (λ x. x < p) (get_or matrix j [])) (sym o.prime) d.fits.1)
+
+      pub has_relations : (relations : Subspace) → relations.prime ≡ f.space.now.prime → relations.width ≡ length matrix
+          → ((v : List ℕ) → length v ≡ length matrix → IsIn relations v ↔ IsIn f.space.now (product f.space.now.prime f.space.now.width v matrix)) → HasRelations f old relations
+      has_relations relations prime width members = record {
+        prime = prime ∙ o.prime;
+        width = width ∙ many;
+        members = λ v l.
+            let one = members v (l ∙ sym many) in
+            let two = related A c g.basis s.corners f.blocks f.space.now o v (old.leads ++ old.standard) matrix (many ∙ sym (length-append old.leads old.standard)) affine_all rows in
+            (λ x. two.0 (one.0 x), λ x. one.1 (two.1 x));
+      }
 
     module _ (relations : Subspace) (r : HasRelations f old relations) (reduced_rows : IsReduced relations) (j : ℕ) (inside : j < length old.leads) where
       -- the member that is read off the relation
@@ -158,6 +166,33 @@ module _ (f : Front) (i : IsFront f) (s : IsDigitSpace f.digits.now) where
           (get_or_default old.leads j unit (get_or old.leads j unit) inside) row z
           (row_is ∙ ap (λ p. set (replicate (length old.leads + length old.standard) 0) j (p - 1)) r.prime) only t
           (e ∙ ap (λ p. record { coeff = 1; mono = get_or old.leads j unit } ∷ number_combination p (drop (length old.leads) z) (map polynomial_of old.standard)) r.prime)
+
+    -- the member as the program reads it off
+    pub read_member : (relations : Subspace) → HasRelations f old relations → IsReduced relations → (j : ℕ) → j < length old.leads → (leads standard : List Monomial) (a z : List ℕ) (p : ℕ) (l : Monomial)
+        → leads ≡ old.leads → standard ≡ old.standard → a ≡ z → p ≡ relations.prime → l ≡ get_or leads j l
+        → IsNormalRow relations (set (replicate (length leads + length standard) 0) j (relations.prime - 1)) z
+        → IsMember f old j (record { coeff = 1; mono = l } ∷ number_combination p (take (length a - length leads) (drop (length leads) a)) (map polynomial_of standard))
+    read_member relations r reduced_rows j inside leads standard a z p l e1 e2 e3 e4 e5 only =
+        is_member relations r reduced_rows j inside (set (replicate (length old.leads + length old.standard) 0) j (relations.prime - 1)) z refl
+        (subst (λ n. IsNormalRow relations (set (replicate n 0) j (relations.prime - 1)) z) sizes only)
+        (record { coeff = 1; mono = l } ∷ number_combination p (take (length a - length leads) (drop (length leads) a)) (map polynomial_of standard))
+        (ap₂ (λ w g. record { coeff = 1; mono = w } ∷ g) lead tail)
+      where
+        sizes : length leads + length standard ≡ length old.leads + length old.standard
+        sizes = let x : length leads ≡ length old.leads = ap length e1 in let y : length standard ≡ length old.standard = ap length e2 in omega arith
+
+        lead : l ≡ get_or old.leads j unit
+        lead = e5 ∙ ap (λ ls. get_or ls j l) e1 ∙ get_or_default old.leads j l unit inside
+
+        whole : take (length a - length leads) (drop (length leads) a) ≡ drop (length leads) a
+        whole = take_all (length a - length leads) (drop (length leads) a) (let n = length-drop (length leads) a in omega arith)
+
+        row : take (length a - length leads) (drop (length leads) a) ≡ drop (length old.leads) z
+        row = whole ∙ ap₂ drop (ap length e1) e3
+
+        tail : number_combination p (take (length a - length leads) (drop (length leads) a)) (map polynomial_of standard)
+            ≡ number_combination relations.prime (drop (length old.leads) z) (map polynomial_of old.standard)
+        tail = ap₂ (λ q cs. number_combination q cs (map polynomial_of standard)) e4 row ∙ ap (λ ws. number_combination relations.prime (drop (length old.leads) z) (map polynomial_of ws)) e2
 
     is_mono : (w : Monomial) → IsAffine f.digits.now.curve.variables w → total_degree w.exponents ≤ 60000 → IsMono w
     is_mono w a l = record { seven = a.seven; bounded = l; one_of_two = (let e = a.plain in omega arith) }

@@ -14,5 +14,5 @@ find_parent-requires-clause-variables c = subst (λ (z : Curve). z.variables ≤
 pub from_term-requires : goal.from_term-requires
 from_term-requires c = subst (λ (z : Curve). 1 < z.prime) (sym (c.deref-in-None.ensures ∙ c.curve-curve.ensures)) (above_one c.args.digits.now.curve.prime c.basis-corners.ensures.known.prime)
 
-pub returns-in_ok-row-in-Some : goal.returns-in_ok-row-in-Some
-returns-in_ok-row-in-Some c = ?
+pub returns-in-Some : goal.returns-in-Some
+returns-in-Some c = ?
