@@ -1,14 +1,15 @@
 -- The monomials that the program has tried: before the first, after one more, and what the relations between them give.
-use Rattle.std.proofs.Common.{◌≡◌, ◌⊎◌, inl, inr, ◌↔◌, ℕ, ◌+◌, ◌-◌, ◌*◌, ◌<◌, ◌≤◌, List, [], ◌∷◌, ◌++◌, map, length, get_or, set, take, drop, replicate, All, refl, sym, ap, ap₂, ◌∙◌, subst, arith}
+use Rattle.std.proofs.Common.{◌≡◌, ◌⊎◌, inl, inr, ◌↔◌, ℕ, ◌+◌, ◌-◌, ◌*◌, ◌<◌, ◌≤◌, List, [], ◌∷◌, ◌++◌, map, length, get_or, set, take, drop, replicate, All, refl, sym, ap, ap₂, ◌∙◌, subst, arith, ⊎_elim}
 use Rattle.std.specs.List.{Contains}
-use Rattle.std.proofs.lemmas.List.{get_or_default, length-append, length-drop, length-map, take_all}
+use Rattle.std.proofs.lemmas.Bool.{cases_lt}
+use Rattle.std.proofs.lemmas.List.{get_or_append_left, get_or_default, get_or-map, get_or_push, length-append, length-drop, length-map, length_push, take_all}
 use Rattle.std.proofs.lemmas.List.Elements.{All-from_get_or, Contains-append_cases}
 use Rattle.monomials.specs.Mono.{Monomial, IsMono, total_degree, unit}
 use Rattle.polys.specs.declared.term.Term.{Term}
 use Rattle.polys.specs.Terms.{EachMono, IsAffine}
-use Rattle.polys.specs.Poly.{IsVector}
+use Rattle.polys.specs.Poly.{IsVector, Polynomial, terms_of}
 use Rattle.polys.specs.Ideal.{number_combination}
-use Rattle.polys.specs.Curve.{CurveData, data_of}
+use Rattle.polys.specs.Curve.{CurveData, IsOver, data_of}
 use Rattle.polys.specs.Reduced.{IsReducedBasis}
 use Rattle.polys.proofs.Each.{every_more}
 use Rattle.curve_model.specs.Laws.{IsFinite}
@@ -31,6 +32,24 @@ use Rattle.corner_basis.proofs.Fronts.{digits_push, finite, front_digits, front_
 no_digits : (g : DigitData) (ws : List Monomial) (rows : List (List ℕ)) → ws ≡ [] → rows ≡ [] → HaveDigits g ws rows
 no_digits g ws rows e f =
     subst (λ z. HaveDigits g z rows) (sym e) (subst (HaveDigits g []) (sym f) (record { count = refl; digits = λ i l. absurd (omega arith) }))
+
+-- the first members, so many of them
+abbrev pub AreMembers : Front → Staircase → ℕ → List Polynomial → Type 0
+AreMembers f s n fs = (length fs ≡ n) × ((j : ℕ) (d : Polynomial) → j < n → ((get_or fs j d).prime ≡ f.digits.now.curve.prime) × IsMember f s j (get_or fs j d).terms)
+
+pub members_push : (f : Front) (s : Staircase) (n : ℕ) (fs : List Polynomial) (q : Polynomial) → AreMembers f s n fs → q.prime ≡ f.digits.now.curve.prime → IsMember f s n q.terms → AreMembers f s (n + 1) (fs ++ q ∷ [])
+members_push f s n fs q a e m = ((let l = length_push fs q in let k = a.0 in omega arith), each)
+  where
+    Good : ℕ → Polynomial → Type 0
+    Good j x = (x.prime ≡ f.digits.now.curve.prime) × IsMember f s j x.terms
+
+    each : (j : ℕ) (d : Polynomial) → j < n + 1 → Good j (get_or (fs ++ q ∷ []) j d)
+    each j d l = ⊎_elim
+        (λ (b : j < n). subst (Good j) (sym (get_or_append_left fs (q ∷ []) d j (let k = a.0 in omega arith))) (a.1 j d b))
+        (λ (b : n ≤ j).
+        let same : n ≡ j = omega arith in
+        subst (Good j) (sym (get_or_push fs q d j (let k = a.0 in omega arith))) (e, subst (λ z. IsMember f s z q.terms) same m))
+        (cases_lt j n)
 
 module _ (f : Front) (i : IsFront f) (s : IsDigitSpace f.digits.now) where
   abbrev g : DigitData
@@ -214,3 +233,18 @@ module _ (f : Front) (i : IsFront f) (s : IsDigitSpace f.digits.now) where
         → ((j : ℕ) → j < length old.leads → IsMember f old j (get_or fs j [])) → IsReducedBasis f.digits.now.curve.prime f.digits.now.curve.variables (IsFrontIn f.digits.now f.blocks f.space.now) fs
     basis_reduced r whole fs n each =
         reduced A c g.basis s.corners f.blocks f.space.now old.span (front_ideal f.digits.now s f.blocks f.space.now i.ideal r) old.standard old.leads h.monomials whole fs (record { count = n; each = each })
+
+    -- ---- the list of the members
+
+    pub members_over : (fs : List Polynomial) → AreMembers f old (length old.leads) fs → All (IsOver f.digits.now.curve.prime f.digits.now.curve.variables) fs
+    members_over fs a = All-from_get_or (IsOver f.digits.now.curve.prime f.digits.now.curve.variables) fs (record { prime = 0; terms = [] })
+        (λ j l. let q = a.1 j (record { prime = 0; terms = [] }) (let n = a.0 in omega arith) in record { prime = q.0; poly = q.1.poly })
+
+    pub members_reduced : IsReduced f.space.now → ((m : Monomial) → IsAffine f.digits.now.curve.variables m → IsPassed old.standard old.leads m) → (fs : List Polynomial) → AreMembers f old (length old.leads) fs
+        → IsReducedBasis f.digits.now.curve.prime f.digits.now.curve.variables (IsFrontIn f.digits.now f.blocks f.space.now) (terms_of fs)
+    members_reduced r whole fs a = basis_reduced r whole (terms_of fs) (length-map fs (λ q. q.terms) ∙ a.0) each
+      where
+        each : (j : ℕ) → j < length old.leads → IsMember f old j (get_or (terms_of fs) j [])
+        each j l =
+            let d : Polynomial = record { prime = 0; terms = [] } in
+            subst (IsMember f old j) (sym (get_or-map (λ q. q.terms) fs j d [] (let n = a.0 in omega arith))) (a.1 j d l).1

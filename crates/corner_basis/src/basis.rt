@@ -144,6 +144,7 @@ pub fn reduced_basis_of_front(
         blocks: t,
         space,
     };
+    let _entries = front.entries();
     let _rows = space.rows();
     let found = Staircase::of_front(&front)?;
     let matrix = found.matrix(&front)?;
