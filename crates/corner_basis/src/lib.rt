@@ -11,4 +11,3 @@ mod queue;
 mod staircase;
 
 pub use basis::{reduced_basis_of, reduced_basis_of_front};
-
