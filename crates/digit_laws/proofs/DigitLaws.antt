@@ -1,19 +1,17 @@
 -- Digits are coordinates modulo I and a power of d.
-use Rattle.std.proofs.Common.{◌≡◌, ℕ, zero, suc, ◌+◌, ◌-◌, ◌*◌, ◌%◌, ◌<◌, List, [], ◌∷◌, ◌++◌, map, length, get_or, All, sym, ap, ap₂, ◌∙◌, subst, arith, mod-lt}
+use Rattle.std.proofs.Common.{◌≡◌, ℕ, zero, suc, ◌+◌, ◌*◌, ◌%◌, ◌<◌, List, [], ◌∷◌, ◌++◌, map, length, get_or, All, sym, ap, ap₂, ◌∙◌, subst, arith, mod-lt}
 use Rattle.std.specs.List.{range_with_len}
 use Rattle.std.proofs.lemmas.List.{length-map, length-append}
 use Rattle.std.proofs.lemmas.List.Elements.{All-nil, All-cons, All-head, All-tail, All-append, All-map}
 use Rattle.comm_ring.specs.Ring.{CommRing, pow}
 use Rattle.comm_ring.specs.Rows.{rows}
 use Rattle.comm_ring.specs.Modules.{combination, module_through}
-use Rattle.comm_ring.specs.Ideals as Ideals
-use Rattle.comm_ring.proofs.Ideals as IdealLaws
 use Rattle.comm_ring.proofs.Modules as Modules
 use Rattle.prime_field.proofs.Table.{positive_of_prime}
 use Rattle.comm_ring.proofs.Quote.{ring, quote}
 use Rattle.monomials.specs.Mono.{Monomial}
 use Rattle.polys.specs.declared.term.Term.{Term}
-use Rattle.polys.specs.Terms.{IsPoly, one, add, sub, mul, multiple}
+use Rattle.polys.specs.Terms.{IsPoly, add, sub, mul, multiple}
 use Rattle.polys.specs.Ideal.{InIdeal, number_combination, Spans, HasDim}
 use Rattle.polys.specs.Curve.{CurveData}
 use Rattle.polys.proofs.Affine.{poly_none, poly_add, poly_mul, poly_multiple, mul_constant, sevens_of, positive}

@@ -1,5 +1,5 @@
 -- Spaces of rows of digits that are closed under the variables, as ideals.
-use Rattle.std.proofs.Common.{◌≡◌, ℕ, zero, suc, ◌+◌, ◌-◌, ◌*◌, ◌%◌, ◌<◌, List, [], ◌∷◌, ◌++◌, map, length, get_or, All, refl, sym, ap, ap₂, ◌∙◌, subst, arith, mod-eq_of_lt}
+use Rattle.std.proofs.Common.{◌≡◌, ℕ, zero, suc, ◌*◌, ◌%◌, ◌<◌, List, [], ◌∷◌, ◌++◌, map, length, get_or, All, refl, sym, ap, ap₂, ◌∙◌, subst, arith, mod-eq_of_lt}
 use Rattle.std.specs.List.{Contains}
 use Rattle.std.proofs.lemmas.List.{length-map}
 use Rattle.std.proofs.lemmas.List.Elements.{All-nil, All-cons, All-head, All-tail, All-append, All-weaker, All-contains_itself}
@@ -7,7 +7,6 @@ use Rattle.comm_ring.specs.Ring.{CommRing}
 use Rattle.comm_ring.specs.Residues.{residue_ops}
 use Rattle.comm_ring.specs.Rows.{rows}
 use Rattle.comm_ring.specs.Modules.{combination, module_through, own_module, InSpan, IsSubmodule, Independent}
-use Rattle.comm_ring.specs.Ideals as Ideals
 use Rattle.comm_ring.proofs.Ideals as IdealLaws
 use Rattle.comm_ring.proofs.Modules as Modules
 use Rattle.comm_ring.proofs.Derived.{one_mul}
@@ -18,7 +17,7 @@ use Rattle.comm_ring.proofs.Residues.{residues}
 use Rattle.comm_ring.proofs.Quote.{ring, quote}
 use Rattle.monomials.specs.Mono.{Monomial, times, unit, variable, total_degree}
 use Rattle.polys.specs.declared.term.Term.{Term}
-use Rattle.polys.specs.Terms.{IsPoly, IsAffine, keep, one, add, sub, mul, multiple}
+use Rattle.polys.specs.Terms.{IsPoly, IsAffine, keep, add, sub, mul, multiple}
 use Rattle.polys.specs.Ideal.{InIdeal, number_combination}
 use Rattle.polys.specs.Curve.{CurveData}
 use Rattle.polys.proofs.Affine.{poly_none, poly_mul, constant, mul_constant, sevens_of, positive}

@@ -4,3 +4,5 @@ mod Steps
 mod Found
 mod Leads
 mod Made
+mod Deeper
+mod Fits

@@ -24,7 +24,7 @@ use Rattle.digit_make.specs.Blocks.{AreKnown, IsKnown}
 use Rattle.digit_make.specs.Making.{AreOuter, AreTrimmed, IsLiftedOf, curve_of_lifted}
 use Rattle.digit_make.specs.Planned.{AreProductsIn, AreRulesIn, IsPlan, IsFoundIn, curve_of}
 use Rattle.digit_make.proofs.Expansion.{variable_times}
-use Rattle.digit_make.proofs.Settings.{setting}
+use Rattle.digit_make.proofs.Settings.{setting, few_corners, nothing_known}
 
 -- the curve of the bases
 pub one_curve : (c : Curve) (l : LiftedData) → IsLiftedOf c l → curve_of_lifted l ≡ data_of c
@@ -90,30 +90,22 @@ module _ (plan : Plan) (h : IsPlan plan) where
       → AreKnown (curve_of plan) plan.corners monomials rows
   empty_known monomials rows n a e q = record {
     count = ap length e ∙ length-replicate n [] ∙ q;
-    each = λ j d l. subst (IsKnown (curve_of plan) plan.corners (get_or monomials j unit)) (sym (ap (λ z. get_or z j d) e ∙ get_or-replicate n j [] d (let w = q in omega arith))) (none (get_or monomials j unit) (All-get_or (IsAffine (curve_of plan).variables) monomials j unit l a));
+    each = λ j d l. subst (IsKnown (curve_of plan) plan.corners (get_or monomials j unit)) (sym (ap (λ z. get_or z j d) e ∙ get_or-replicate n j [] d (let w = q in omega arith)))
+        (nothing_known (curve_of plan) plan.corners (setting plan h) (get_or monomials j unit) (All-get_or (IsAffine (curve_of plan).variables) monomials j unit l a));
   }
-    where
-      none : (m : Monomial) → IsAffine (curve_of plan).variables m → IsKnown (curve_of plan) plan.corners m []
-      none m f =
-          let r = ((setting plan h).laws 0).exist (polynomial_of m) (record { canonical = ((omega arith), above_one (curve_of plan).prime h.prime, tt, tt); affine = (f, tt) }) in
-          (0, subst (AreDigits (curve_of plan) plan.corners 0 (polynomial_of m)) (none_from r.0 (r.1.fits.0 ∙ (let w : length plan.corners * 0 ≡ 0 = omega arith in w))) r.1)
-        where
-          none_from : (row : List ℕ) → length row ≡ 0 → row ≡ []
-          none_from [] l = refl
-          none_from (x ∷ row) l = absurd (omega arith)
 
 -- a plan by its parts
 pub plan_by : (c : Curve) (l : LiftedData) (plan : Plan) (corners : List Monomial) → IsLiftedOf c l → IsPrime l.prime → l.prime ≤ 32003 → Fit c → plan.curve.value ≡ c → AreCornersOf (data_of c) corners
-    → plan.corners ≡ corners → 0 < length corners → length corners ≤ 256 → All (IsAffine l.variables) plan.border → All (IsAffine l.variables) plan.outer
+    → plan.corners ≡ corners → 0 < length corners → All (IsAffine l.variables) plan.border → All (IsAffine l.variables) plan.outer
     → AreProductsIn l.variables plan.corners plan.border plan.products → AreRulesIn (curve_of_lifted l) plan.corners plan.border plan.outer plan.border plan.border_rules
     → AreRulesIn (curve_of_lifted l) plan.corners plan.border plan.outer plan.outer plan.outer_rules → IsPlan plan
-plan_by c l plan corners h prime small fit e k ce some few border outer products border_rules outer_rules = record {
+plan_by c l plan corners h prime small fit e k ce some border outer products border_rules outer_rules = record {
   prime = subst IsPrime (ap (λ (A : CurveData). A.prime) same) prime;
   small = subst (λ z. z ≤ 32003) (ap (λ (A : CurveData). A.prime) same) small;
   fit = subst Fit (sym e) fit;
   corners = subst (λ z. AreCornersOf (data_of plan.curve.value) z) (sym ce) (subst (λ z. AreCornersOf (data_of z) corners) (sym e) k);
   some = subst (λ z. 0 < length z) (sym ce) some;
-  few = subst (λ z. length z ≤ 256) (sym ce) few;
+  few = subst (λ z. length z ≤ 256) (sym ce) (few_corners c (subst IsPrime h.prime prime) fit corners k);
   border = subst (λ (A : CurveData). All (IsAffine A.variables) plan.border) same border;
   outer = subst (λ (A : CurveData). All (IsAffine A.variables) plan.outer) same outer;
   products = subst (λ (A : CurveData). AreProductsIn A.variables plan.corners plan.border plan.products) same products;

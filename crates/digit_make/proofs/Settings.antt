@@ -1,19 +1,24 @@
 -- A plan has the curve and the corners that the lemmas on blocks ask for.
-use Rattle.std.proofs.Common.{◌≡◌, ℕ, suc, ◌++◌, List, length, map, ap, sym, ◌∙◌, subst}
+use Rattle.std.proofs.Common.{◌≡◌, ℕ, suc, ◌*◌, ◌≤◌, ◌++◌, List, [], ◌∷◌, length, map, refl, ap, sym, ◌∙◌, subst, arith}
 use Rattle.std.specs.List.{All}
 use Rattle.std.proofs.lemmas.List.{length-map}
 use Rattle.std.proofs.lemmas.List.Elements.{All-weaker, All-contains_itself}
 use Rattle.std.specs.List.{Contains}
+use Rattle.prime_field.specs.Primes.{IsPrime}
+use Rattle.prime_field.proofs.Table.{above_one}
 use Rattle.monomials.specs.Mono.{Monomial}
+use Rattle.polys.specs.declared.curve.Curve.{Curve}
 use Rattle.polys.specs.Terms.{IsAffine, add, mul}
 use Rattle.polys.specs.Ideal.{number_combination}
-use Rattle.polys.specs.Curve.{CurveData}
+use Rattle.polys.specs.Curve.{CurveData, Fit, data_of}
 use Rattle.curve_model.specs.Laws.{IsFinite}
-use Rattle.curve_laws.proofs.StepLaws.{fit_law}
+use Rattle.curve_laws.proofs.FitLaws.{fit_law}
 use Rattle.standard_monomials.specs.Standard.{polynomial_of}
-use Rattle.digit_laws.specs.Digits.{AreCornersOf, places, spread, value}
+use Rattle.standard_monomials.proofs.Unique.{unique_law}
+use Rattle.digit_laws.specs.Digits.{AreCornersOf, AreDigits, places, spread, value}
 use Rattle.digit_laws.proofs.DigitLaws.{digit_law, span, times_polys, place_polys, appended, pushed, numbers_poly}
 use Rattle.digit_laws.proofs.Blocks.{block_law}
+use Rattle.digit_make.specs.Blocks.{IsKnown}
 use Rattle.digit_make.specs.declared.plan.Plan.{Plan}
 use Rattle.digit_make.specs.Planned.{IsPlan, curve_of}
 use Rattle.digit_make.proofs.Expansion.{IsSetting}
@@ -41,3 +46,21 @@ setting_of A c ms k = record {
 
 pub setting : (plan : Plan) → IsPlan plan → IsSetting (curve_of plan) plan.corners
 setting plan h = setting_of (curve_of plan) (fit_law plan.curve.value h.prime h.fit) plan.corners h.corners
+
+-- the corners are as many as the dimension of a fit curve
+pub few_corners : (c : Curve) → IsPrime c.prime → Fit c → (ms : List Monomial) → AreCornersOf (data_of c) ms → length ms ≤ 256
+few_corners c prime fit ms k =
+    let A = data_of c in
+    let d = ((setting_of (data_of c) (fit_law c prime fit) ms k).laws 0).dimension in
+    let n = fit.finite.1 in
+    subst (λ z. z ≤ 256) (unique_law.one A.prime A.variables (A.denominator ∷ A.ideal) fit.finite.0 (length ms) fit.finite.2 d) n
+
+-- no digits are those at the depth 0
+pub nothing_known : (A : CurveData) (ms : List Monomial) → IsSetting A ms → (m : Monomial) → IsAffine A.variables m → IsKnown A ms m []
+nothing_known A ms s m f =
+    let r = (s.laws 0).exist (polynomial_of m) (record { canonical = ((omega arith), above_one A.prime s.prime, tt, tt); affine = (f, tt) }) in
+    (0, subst (AreDigits A ms 0 (polynomial_of m)) (none_from r.0 (r.1.fits.0 ∙ (let w : length ms * 0 ≡ 0 = omega arith in w))) r.1)
+  where
+    none_from : (row : List ℕ) → length row ≡ 0 → row ≡ []
+    none_from [] l = refl
+    none_from (x ∷ row) l = absurd (omega arith)

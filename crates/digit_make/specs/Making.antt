@@ -1,10 +1,13 @@
 -- What the makers of digits take.
-use Rattle.std.specs.Prelude.{◌≡◌, ℕ, ◌++◌, ◌-◌, ◌<◌, ◌≤◌, List, [], length, replicate, slice_index_or}
+use Rattle.std.specs.Prelude.{◌≡◌, ℕ, ◌++◌, ◌-◌, ◌<◌, ◌≤◌, List, [], length, replicate, slice_index_or, take}
 use Rattle.monomials.specs.Mono.{Monomial, unit}
 use Rattle.polys.specs.declared.curve.Curve.{Curve}
+use Rattle.polys.specs.declared.term.Term.{Term}
 use Rattle.polys.specs.Curve.{CurveData}
 use Rattle.polys.specs.Poly.{terms_of}
+use Rattle.polys.specs.Terms.{IsPoly}
 use Rattle.lift_colon.specs.Lifted.{LiftedData}
+use Rattle.digit_space.specs.Model.{DigitData, IsDigitsOf, width}
 use Rattle.digit_space.specs.declared.products.OuterRow.{OuterRow}
 
 -- the bases are those of the curve's ideal and denominator
@@ -29,3 +32,8 @@ pub record AreOuter (long : ℕ) (monomials : List Monomial) (rows : List (List 
   pub count : length made ≡ length monomials
   pub each : (j : ℕ) (d : OuterRow) (e : List ℕ) → j < length made → ((slice_index_or made j d).monomial ≡ slice_index_or monomials j unit)
       × ((slice_index_or made j d).digits ≡ slice_index_or rows j e) × (length (slice_index_or rows j e) ≡ long)
+
+-- where a polynomial has the row as its digits at the second depth, the first blocks are its digits at the first one
+abbrev pub HasFirstBlocks : DigitData → DigitData → Type 0
+HasFirstBlocks old new =
+    (f : List Term) (row : List ℕ) → IsPoly old.curve.prime old.curve.variables f → IsDigitsOf new f row → IsDigitsOf old f (take (width old) row)

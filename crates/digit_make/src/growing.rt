@@ -9,7 +9,7 @@ use std::alloc::Global;
 use std::mem;
 
 // The row with the block behind it.
-fn longer(row: List<u32>, block: &[u32]) -> Result<List<u32>, NoMemory>
+pub(crate) fn longer(row: List<u32>, block: &[u32]) -> Result<List<u32>, NoMemory>
     ensures { IfOk result (λ made. made ≡ row ++ block.now) }
 {
     let mut row = row;

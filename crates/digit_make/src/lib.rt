@@ -2,10 +2,15 @@
 #![tactic(auto)]
 
 mod blocks;
+mod extending;
 mod growing;
 mod making;
 mod plan;
 mod planning;
 mod rules;
 
+pub use extending::extended;
 pub use making::make;
+
+#[cfg(test)]
+mod tests;

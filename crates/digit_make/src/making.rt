@@ -57,7 +57,6 @@ pub(crate) fn plan_of(
     requires lifted { IsLiftedOf curve.now.value lifted.now }
     requires corners { AreCornersOf (data_of curve.now.value) corners }
     requires some { 0 < length corners }
-    requires few { length corners ≤ 256 }
     ensures plan { IfOk result IsPlan }
     ensures curve { IfOk result (λ plan. plan.curve.value ≡ curve.now.value) }
     ensures corners { IfOk result (λ plan. plan.corners ≡ corners) }
@@ -184,7 +183,7 @@ fn outer_rows(
 }
 
 // The digits of the plan's curve at the depth, from rows that may be begun.
-fn digits_from(alloc: Global, plan: Plan, rows: Rows, depth: u32) -> Result<Digits, NoMemory>
+pub(crate) fn digits_from(alloc: Global, plan: Plan, rows: Rows, depth: u32) -> Result<Digits, NoMemory>
     requires plan { IsPlan plan }
     requires rows { AreRowsOf plan rows }
     requires depth { depth ≤ 200 }
@@ -207,7 +206,7 @@ fn digits_from(alloc: Global, plan: Plan, rows: Rows, depth: u32) -> Result<Digi
 }
 
 // The digits where 1 is in the ideal of the curve and the denominator: all rows are empty.
-fn no_digits(alloc: Global, curve: &Arc<Curve>, corners: List<Mono>, depth: u32) -> Result<Digits, NoMemory>
+pub(crate) fn no_digits(alloc: Global, curve: &Arc<Curve>, corners: List<Mono>, depth: u32) -> Result<Digits, NoMemory>
     requires fit { Fit curve.now.value }
     requires corners { AreCornersOf (data_of curve.now.value) corners }
     requires none { corners ≡ [] }
@@ -225,19 +224,23 @@ fn no_digits(alloc: Global, curve: &Arc<Curve>, corners: List<Mono>, depth: u32)
     ))
 }
 
-/// The digits of the curve at the depth t, at most 200.
+/// The digits of the curve at the depth t, at most 200, with the rows from which `extended` goes on.
 ///
 /// Each lead of the basis is lifted once; the digits of the other products of a variable and a corner, and of the
 /// monomials that the lifts need, come from smaller ones, power of d by power of d. With N corners, b of whose products by
 /// a variable are no corners on the average, and with M such products and monomials in all, it takes at most b M N t^2
 /// multiplications.
 ///
+/// # Errors
+/// Want of memory.
+///
 /// Greuel and Pfister, sections on standard bases and on lifts.
 pub fn make(alloc: Global, curve: &Arc<Curve>, lifted: &Lifted, t: u32) -> Result<Digits, NoMemory>
     requires fit { Fit curve.now.value }
     requires lifted { IsLiftedOf curve.now.value lifted.now }
     requires depth { t ≤ 200 }
-    ensures { IfOk result (λ g. (g.curve ≡ curve.now.value) × (g.depth ≡ t)) }
+    ensures curve { IfOk result (λ g. g.curve ≡ curve.now.value) }
+    ensures depth { IfOk result (λ g. g.depth ≡ t) }
 {
     let corners = corners_of(alloc, lifted)?;
     if corners.len() == 0 {

@@ -225,7 +225,7 @@ pub(crate) fn order_of(
 }
 
 // Whether the monomial is one in the first variables.
-fn is_affine(variables: u32, m: &Mono) -> bool
+pub(crate) fn is_affine(variables: u32, m: &Mono) -> bool
     requires { variables ≤ 6 }
     ensures { IsTrue result → IsAffine variables m.now }
 {

@@ -16,7 +16,7 @@ use Rattle.polys.specs.Ideal.{number_combination}
 use Rattle.polys.specs.Curve.{CurveData, data_of}
 use Rattle.polys.proofs.Affine.{mul_constant, sevens_of}
 use Rattle.curve_model.specs.Laws.{IsFinite, ArePolys}
-use Rattle.curve_laws.proofs.Base.{high, Ring, member}
+use Rattle.curve_laws.proofs.Base.{Ring, member}
 use Rattle.curve_laws.proofs.Scalars.{scalar_map}
 use Rattle.lane_rows.specs.Rows.{AreResidues}
 use Rattle.row_space.specs.Echelon.{IsRow}
@@ -37,7 +37,7 @@ module _ (C : CommRing) where
 
   infix 40 ◌≈◌
   infixl 60 ◌⊕◌
-  none_before : (x : carrier) → 𝟘 ⊕ x ≈ x
+  pub none_before : (x : carrier) → 𝟘 ⊕ x ≈ x
   none_before x = ring C (x ∷ []) (search quote depth 20) tt
 
   none_behind : (x : carrier) → x ⊕ 𝟘 ≈ x

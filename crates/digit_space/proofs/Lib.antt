@@ -10,3 +10,5 @@ mod RowProducts
 mod MonomialRows
 mod TermRows
 mod Spaced
+mod BlockPolys
+mod Lows

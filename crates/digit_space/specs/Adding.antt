@@ -1,8 +1,9 @@
 -- Sums of rows of products, entry by entry.
-use Rattle.std.specs.Prelude.{◌≡◌, ◌⊎◌, ℕ, suc, ◌+◌, ◌*◌, ◌<◌, List, [], ◌∷◌, ◌++◌, length, replicate, slice_index, slice_index_or, Option}
+use Rattle.std.specs.Prelude.{◌≡◌, ◌⊎◌, ℕ, suc, ◌+◌, ◌*◌, ◌<◌, List, [], ◌∷◌, ◌++◌, map, length, replicate, slice_index, slice_index_or, Option}
 use Rattle.lane_rows.specs.Rows.{AreResidues}
 use Rattle.polys.specs.declared.term.Term.{Term}
 use Rattle.polys.specs.Terms.{mul}
+use Rattle.polys.specs.Ideal.{number_combination}
 use Rattle.standard_monomials.specs.Standard.{polynomial_of}
 use Rattle.digit_space.specs.Model.{DigitData, AreFirstDigits, corner, kept_at, value_of}
 use Rattle.digit_space.specs.declared.products.Product.{Product}
@@ -42,3 +43,7 @@ HasMultiples g q row f = (i : ℕ) → i < length g.basis → IsUnused g row i �
 -- the row's polynomial times the corner with this number
 abbrev pub corner_multiple : DigitData → List ℕ → ℕ → List Term
 corner_multiple g row i = mul g.curve.prime (value_of g row) (polynomial_of (corner g i))
+
+-- the corners, each times its entry of the block
+abbrev pub corner_sum : DigitData → List ℕ → List Term
+corner_sum g block = number_combination g.curve.prime block (map polynomial_of g.basis)

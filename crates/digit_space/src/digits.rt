@@ -1,10 +1,12 @@
 // A modulo a power of the denominator, by rows of digits.
-ghost use Rattle.std.specs.Prelude.{◌≡◌, ◌≤◌, ◌+◌, ℕ, List, [], ◌∷◌, slice_index_or, ◌<◌, ◌++◌, length, drop, replicate, min, IfOk, OnOk, IfSome, IsNone, Contains};
+ghost use Rattle.std.specs.Prelude.{◌≡◌, ◌≤◌, ◌+◌, ◌*◌, ℕ, List, [], ◌∷◌, slice_index_or, ◌<◌, ◌++◌, length, drop, replicate, min, IfOk, OnOk, IfSome, IsNone, Contains};
 ghost use Rattle.monomials.specs.Mono.{times, unit, variable};
 ghost use Rattle.polys.specs.Curve.{IsOver, HasDimModulo, data_of};
+ghost use Rattle.polys.specs.declared.curve.TheConstants.{LARGEST_DIMENSION, MAX_DENOMINATOR_DEGREE};
 ghost use Rattle.polys.specs.declared.term.Term.{Term};
-ghost use Rattle.polys.specs.Terms.{IsAffine, IsPoly, add, mul};
-ghost use Rattle.digit_space.specs.Adding.{HasMultiples, IsWithin, corner_multiple, rows_from};
+ghost use Rattle.polys.specs.Terms.{IsAffine, IsPoly, add, degree_of, mul};
+ghost use Rattle.row_space.specs.Echelon.{IsRow};
+ghost use Rattle.digit_space.specs.Adding.{HasMultiples, IsWithin, corner_multiple, corner_sum, rows_from};
 ghost use Rattle.standard_monomials.specs.Standard.{polynomial_of};
 
 use crate::dividing::{by_variable, position};
@@ -366,6 +368,47 @@ impl Digits {
             self.add_term(preferred, terms[k], out.as_mut_slice())?;
         }
         Ok(List::of_vec(out))
+    }
+
+    // The sum of the corners, each times its entry of the block.
+    fn block_poly(&self, block: &[u32]) -> Result<Poly, NoMemory>
+        requires { IsRow self.now.curve.prime (length self.now.basis) block.now }
+        ensures { IfOk result (λ f. f ≡ record { prime = self.now.curve.prime; terms = corner_sum self.now block.now }) }
+    {
+        let corners = self.basis.as_slice();
+        let mut terms = Vec::new(self.allocator());
+        let mut i = block.len();
+        while i > 0 {
+            i -= 1;
+            if block[i] != 0 {
+                terms.push(Term {
+                    coeff: block[i],
+                    mono: corners[i],
+                })?;
+            }
+        }
+        Ok(Poly::of_terms(self.curve.prime, terms))
+    }
+
+    /// A polynomial with these digits, of degree below 256 + 119 T.
+    ///
+    /// It takes a product with d and a sum for each block, from the last one to the first.
+    pub fn poly_of(&self, row: &[u32]) -> Result<Poly, NoMemory>
+        requires { IsDigitRow self.now row.now }
+        ensures over { IfOk result (λ f. IsOver self.now.curve.prime self.now.curve.variables f) }
+        ensures digits { IfOk result (λ f. IsDigitsOf self.now f.terms row.now) }
+        ensures low { IfOk result (λ f. degree_of f.terms < LARGEST_DIMENSION + MAX_DENOMINATOR_DEGREE * self.now.depth) }
+    {
+        let corners = self.basis.len();
+        let mut f = Poly::zero(self.allocator(), self.curve.prime);
+        let mut from = row.len();
+        while from > 0 {
+            from -= corners;
+            let block = self.block_poly(&row[from..from + corners])?;
+            let behind = self.curve.denominator.mul(&f)?;
+            f = block.add(&behind)?;
+        }
+        Ok(f)
     }
 
     /// The row becomes that of d times its polynomial: the blocks move up by one, and the last one is dropped. It takes one

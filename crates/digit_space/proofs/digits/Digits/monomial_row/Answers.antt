@@ -1,5 +1,4 @@
 use Rattle.std.proofs.Common.{◌≡◌, ◌*◌, ◌<◌, length, ap, ap₂, sym, subst, ◌∙◌, arith, set}
-use Rattle.monomials.specs.Mono.{variable}
 use Rattle.polys.specs.Terms.{IsAffine}
 use Rattle.digit_space.specs.Model.{IsDigitSpace, IsDigitRow, IsDigitsOf, times_variable, value_of, width}
 use Rattle.digit_space.proofs.Spaced.{width_small}

@@ -1,0 +1,11 @@
+use Rattle.digit_make.proofs.Made.{empty_known}
+use Rattle.digit_make.proofs.making.make.Goals as goal
+
+pub digits_from-requires-clause-rows : goal.digits_from-requires-clause-rows
+digits_from-requires-clause-rows c =
+    let plan = c.in_ok-plan.plan in
+    let h = c.in_ok-plan.ensures.plan in
+    record {
+      border = empty_known plan h plan.border c.in_ok-empty_rows.field-0 c.len-2.result h.border c.in_ok-empty_rows.ensures c.len-2.ensures;
+      outer = empty_known plan h plan.outer c.in_ok-empty_rows-2.field-0 c.len-3.result h.outer c.in_ok-empty_rows-2.ensures c.len-3.ensures;
+    }

@@ -1,0 +1,20 @@
+use Rattle.std.proofs.Common.{◌≡◌, ◌*◌, ◌≤◌, length, ap₂, ◌∙◌, subst}
+use Rattle.digit_make.specs.Making.{curve_of_lifted}
+use Rattle.digit_make.specs.Planned.{AreFirstProducts, AreRulesIn}
+use Rattle.digit_make.proofs.Made.{plan_by}
+use Rattle.digit_make.proofs.making.plan_of.Goals as goal
+
+pub returns-clause-plan : goal.returns-clause-plan
+returns-clause-plan c =
+    let A = curve_of_lifted c.args.lifted.now in
+    let play = c.in_ok-play.play in
+    let p : c.get-p.result ≡ c.args.lifted.now.prime = c.get-p.ensures.value ∙ c.prime.ensures in
+    plan_by c.args.curve.now.value c.args.lifted.now _ c.args.corners c.requires.lifted c.ideal_basis-basis.ensures.known.prime (subst (λ z. z ≤ 32003) p c.get-p.ensures.range.1) c.requires.fit
+    c.in_ok-curve.ensures c.requires.corners c.in_ok-play.ensures.corners c.requires.some c.in_ok-play.ensures.border c.in_ok-play.ensures.outer
+    (record {
+      count = c.in_ok-products.ensures.count ∙ ap₂ (λ n ms. n * length ms) c.variables.ensures c.as_slice.ensures;
+      each = subst (λ z. AreFirstProducts z play.border c.in_ok-products.products) c.as_slice.ensures
+          (subst (λ z. AreFirstProducts c.as_slice.result.now z c.in_ok-products.products) c.as_slice-2.ensures c.in_ok-products.ensures.each);
+    })
+    (subst (λ z. AreRulesIn A play.corners play.border play.outer z c.in_ok-border_rules.border_rules) c.as_slice-3.ensures c.in_ok-border_rules.ensures)
+    (subst (λ z. AreRulesIn A play.corners play.border play.outer z c.in_ok-outer_rules.outer_rules) c.as_slice-4.ensures c.in_ok-outer_rules.ensures)
