@@ -9,3 +9,4 @@ mod Falling
 mod Started
 mod Fronts
 mod Tried
+mod ZeroSpace

@@ -11,3 +11,7 @@ mod queue;
 mod staircase;
 
 pub use basis::{reduced_basis_of, reduced_basis_of_front};
+
+
+#[cfg(test)]
+mod tests;
