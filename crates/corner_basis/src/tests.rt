@@ -86,7 +86,7 @@ fn bases(alloc: Global, text: &str) -> Result<Lifted, Fail>
 }
 
 // The curve of the text.
-fn sample(alloc: Global, text: &str) -> Result<Sample, Fail>
+fn sample_of(alloc: Global, text: &str) -> Result<Sample, Fail>
     ensures fit { IfOk result (λ s. Fit s.curve.value) }
     ensures lifted { IfOk result (λ s. IsLiftedOf s.curve.value s.lifted) }
 {
@@ -137,7 +137,7 @@ fn gives(
     requires blocks { blocks ≤ depth }
     requires depth { depth ≤ 200 }
 {
-    let s = sample(alloc, text)?;
+    let s = sample_of(alloc, text)?;
     let digits = make(alloc, &s.curve, &s.lifted, depth)?;
     let space = zero_space(&digits, blocks);
     let found = reduced_basis_of_front(&digits, blocks, &space)?;
@@ -170,7 +170,7 @@ fn all_polynomials(rt: HostRuntime) -> Result<(), Fail> {
 #[test]
 fn all_blocks(rt: HostRuntime) -> Result<(), Fail> {
     let alloc = rt.alloc();
-    let s = sample(alloc, CUSP)?;
+    let s = sample_of(alloc, CUSP)?;
     let digits = make(alloc, &s.curve, &s.lifted, 2)?;
     let space = zero_space(&digits, digits.depth());
     let found = reduced_basis_of(&digits, &space)?;
