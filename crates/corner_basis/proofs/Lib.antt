@@ -1,0 +1,12 @@
+mod Numbers
+mod Classes
+mod Leads
+mod Growing
+mod Search
+mod Relations
+mod Reduced
+mod Falling
+mod Started
+mod Fronts
+mod Tried
+mod ZeroSpace
