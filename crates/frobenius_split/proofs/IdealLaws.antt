@@ -1,10 +1,9 @@
 -- What a multiplication takes to the nilpotent elements is the ideal at an element.
 use Rattle.std.proofs.Common.{◌≡◌, ◌↔◌, ◌<◌, ◌∙◌, ℕ, List, length, ap, subst, sym}
-use Rattle.comm_ring.specs.Modules.{InSpan}
 use Rattle.comm_ring.proofs.Residues.{residues}
 use Rattle.comm_ring.proofs.Modules as Modules
 use Rattle.row_space.specs.Subspace.{Subspace, IsIn, product}
-use Rattle.finite_algebra.specs.Elements.{FiniteAlgebra, AreProducts, elements, times}
+use Rattle.finite_algebra.specs.Elements.{FiniteAlgebra, AreProducts, elements}
 use Rattle.finite_algebra.proofs.Generated.{moved}
 use Rattle.finite_algebra.proofs.Multiplication.{product-times}
 use Rattle.finite_algebra.proofs.Products.{module_of}
@@ -25,8 +24,7 @@ module _ (A : FiniteAlgebra) (pos : 0 < A.prime) (nilpotent : Subspace) (prime :
     prime = p ∙ prime;
     width = w ∙ (ap length same ∙ products.count);
     members = λ x fits.
-        let long = fits.0 ∙ sym (ap length same ∙ products.count) in
-        (
+        let long = fits.0 ∙ sym (ap length same ∙ products.count) in (
           λ h. same_row _ _ (product-times A pos e table products x) (image_moved nilpotent nilpotent.prime A.prime nilpotent.width A.dimension x us table prime width same ((members x long).0 h)),
           λ h. (members x long).1 (image_moved nilpotent A.prime nilpotent.prime A.dimension nilpotent.width x table us (sym prime) (sym width) (sym same)
               (same_row _ _ ((module_of A pos).symm (product-times A pos e table products x)) h)),

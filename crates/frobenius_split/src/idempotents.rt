@@ -107,6 +107,83 @@ fn lowered(
     Ok(made)
 }
 
+fn is_zero(row: &[u32]) -> bool
+    ensures { IsTrue result → IsZeroRow row.now }
+{
+    match first_nonzero(row) {
+        None => true,
+        Some(_place) => false,
+    }
+}
+
+// Whether the product of w and u - c for all the roots c is 0.
+fn vanishes(
+    alloc: Global,
+    a: &Algebra,
+    u: &[u32],
+    table: &[List<u32>],
+    w: &[u32],
+    roots: &[u32],
+) -> Result<bool, NoMemory>
+    requires table { AreProducts a.now u.now table.now }
+    requires w { IsElement a.now w.now }
+    requires residues { AreResidues a.now.prime roots.now }
+    ensures { IfOk result (λ yes. IsTrue yes → (elements a.now).◌≋◌ (lowered_by a.now u.now roots.now w.now) (elements a.now).origin) }
+{
+    let _one = a.one();
+    let _p = a.prime().get();
+    if roots.len() == 0 {
+        let yes = is_zero(w);
+        return Ok(yes);
+    }
+    let last = roots.len() - 1;
+    let next = lowered(alloc, a, u, table, w, roots[last])?;
+    let yes = vanishes(alloc, a, u, table, next.as_slice(), &roots[..last])?;
+    Ok(yes)
+}
+
+// The residues 0, 1 and -1, in rising order.
+fn few_residues(alloc: Global, prime: Prime) -> Result<List<u32>, NoMemory>
+    ensures residues { IfOk result (λ roots. AreResidues prime roots) }
+    ensures rising { IfOk result (λ roots. (i j : ℕ) → i < j → j < length roots → slice_index roots i < slice_index roots j) }
+{
+    let p = prime.get();
+    let mut roots = List::new(alloc);
+    roots.push(0)?;
+    roots.push(1)?;
+    if p == 2 {
+        return Ok(roots);
+    }
+    roots.push(p - 1)?;
+    Ok(roots)
+}
+
+// Residues c, in rising order, for which the product of e and all u - c is 0: 0, 1 and -1 if they do,
+// else the roots of a polynomial.
+fn roots_at(
+    alloc: Global,
+    a: &Algebra,
+    u: &[u32],
+    table: &[List<u32>],
+    e: &[u32],
+) -> Result<List<u32>, NoMemory>
+    requires fixed { IsFixed a.now u.now }
+    requires table { AreProducts a.now u.now table.now }
+    requires e { IsElement a.now e.now }
+    ensures residues { IfOk result (λ roots. AreResidues a.now.prime roots) }
+    ensures rising { IfOk result (λ roots. (i j : ℕ) → i < j → j < length roots → slice_index roots i < slice_index roots j) }
+    ensures lowered { IfOk result (λ roots. (elements a.now).◌≋◌ (lowered_by a.now u.now roots e.now) (elements a.now).origin) }
+{
+    let _p = a.prime().get();
+    let few = few_residues(alloc, a.prime())?;
+    if vanishes(alloc, a, u, table, e, few.as_slice())? {
+        return Ok(few);
+    }
+    let coefficients = vanishing(alloc, a, u, table, e)?;
+    let roots = roots_of(alloc, a, u, e, coefficients.as_slice())?;
+    Ok(roots)
+}
+
 // The parts, each divided by its number less c, and w without their sum.
 fn divided(
     alloc: Global,
@@ -213,8 +290,7 @@ fn pieces(
         let whole = single(alloc, e)?;
         return Ok(whole);
     }
-    let coefficients = vanishing(alloc, a, u, table, e)?;
-    let roots = roots_of(alloc, a, u, e, coefficients.as_slice())?;
+    let roots = roots_at(alloc, a, u, table, e)?;
     let (_values, parts) = eigenparts(alloc, a, u, table, e, roots.as_slice())?;
     Ok(parts)
 }
@@ -277,6 +353,28 @@ pub(crate) fn mixture(
 // has another value at each idempotent where p is large.
 const TRIES: u32 = 16;
 
+// Up to this dimension, and from this prime on, powers of the element are cheaper than all residues.
+const SMALL_DIMENSION: usize = 24;
+
+const LARGE_PRIME: u32 = 1024;
+
+// The element to the power (p - 1) / 2, which is 0, 1 or -1 at each idempotent, where that is cheap; else
+// the element itself.
+fn character(a: &Algebra, u: List<u32>) -> Result<List<u32>, NoMemory>
+    requires element { IsElement a.now u }
+    requires fixed { IsFixed a.now u }
+    ensures element { IfOk result (λ v. IsElement a.now v) }
+    ensures fixed { IfOk result (λ v. IsFixed a.now v) }
+{
+    let _one = a.one();
+    let p = a.prime().get();
+    if a.dimension() > SMALL_DIMENSION || p < LARGE_PRIME {
+        return Ok(u);
+    }
+    let v = a.power(u.as_slice(), (p / 2) as u64)?;
+    Ok(v)
+}
+
 // The parts of the idempotents by a sum of multiples of the fixed elements; the idempotents themselves
 // where there are as many of them as of the fixed elements.
 fn split_by_sum(
@@ -297,7 +395,8 @@ fn split_by_sum(
     }
     let factors = mixture(alloc, a.prime(), us.len(), seed)?;
     let u = image(alloc, a.prime(), us, a.dimension(), factors.as_slice())?;
-    let parts = split(alloc, a, u.as_slice(), es.as_slice())?;
+    let v = character(a, u)?;
+    let parts = split(alloc, a, v.as_slice(), es.as_slice())?;
     Ok(parts)
 }
 

@@ -1,14 +1,9 @@
-use Rattle.std.proofs.Common.{◌≡◌, ◌∙◌, ◌<◌, ◌≤◌, ◌+◌, ◌-◌, ◌++◌, ◌∷◌, [], ℕ, List, length, get_or, arith, ap, subst, sym, length-append}
+use Rattle.std.proofs.Common.{◌≡◌, ◌∙◌, ◌<◌, ◌+◌, ◌++◌, ◌∷◌, [], ℕ, List, length, get_or, arith, ap, subst, sym, length-append}
 use native.Mathlib.Decide.{ℕ_discrete}
 use Rattle.std.proofs.lemmas.List.{get_or_append_left, get_or_default, get_or_push}
-use Rattle.prime_field.specs.Primes.{IsPrime}
-use Rattle.comm_ring.specs.Modules.{DimensionOf}
-use Rattle.row_space.specs.Subspace.{Subspace, IsIn, all_rows}
-use Rattle.finite_algebra.specs.Projections.{IsProjection}
+use Rattle.row_space.specs.Subspace.{Subspace}
 use Rattle.frobenius_split.specs.Points.{at}
 use Rattle.frobenius_split.specs.Idempotents.{IsIdealAt}
-use Rattle.frobenius_split.proofs.IdempotentLaws.{radical_ideal}
-use Rattle.frobenius_split.proofs.Stages.{at_most}
 use Rattle.frobenius_split.proofs.ideals.ideals_at.Goals as goal
 
 pub loop-i-preserved : goal.loop-i-preserved

@@ -30,7 +30,7 @@ returns-clause-parts c =
     let A = c.args.a.now in
     let prime = subst IsPrime (c.get-p.ensures.value ∙ c.prime.ensures) c.get-p.ensures.prime in
     let laws = c.one-one.ensures.laws in
-    let low = c.in_ok-_values.ensures.below A.prime (subst (All (λ x. x < A.prime)) (sym c.as_slice-3.ensures) c.in_ok-roots.ensures.residues) in
+    let low = c.in_ok-_values.ensures.below A.prime (subst (All (λ x. x < A.prime)) (sym c.as_slice-2.ensures) c.in_ok-roots.ensures.residues) in
     eigenparts_are A prime laws c.args.u.now c.args.e.now c.in_ok-_values._values c.in_ok-_values.parts (λ j l. low j 0 l) c.in_ok-_values.ensures.parts (c.in_ok-_values.ensures.inside c.args.e.now c.requires.square)
 
 pub returns-clause-numbers : goal.returns-clause-numbers

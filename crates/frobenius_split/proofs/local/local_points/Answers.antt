@@ -1,5 +1,5 @@
 -- Each ideal that is taken is maximal, and the point that is made of it is that of the ideal and its idempotent.
-use Rattle.std.proofs.Common.{◌≡◌, ◌∙◌, ◌<◌, ◌≤◌, ◌+◌, ◌++◌, ◌∷◌, [], List, ℕ, length, get_or, map, take, sym, ap, ap₂, subst, arith, length-append}
+use Rattle.std.proofs.Common.{◌≡◌, ◌∙◌, ◌<◌, ◌+◌, ◌++◌, ◌∷◌, [], List, ℕ, length, get_or, map, take, sym, ap, ap₂, subst, arith, length-append}
 use Rattle.std.specs.List.{All}
 use Rattle.std.proofs.lemmas.List.{map-append, map-id, get_or_default, length-map, take_all, take_more}
 use Rattle.std.proofs.lemmas.List.Elements.{All-push}
@@ -7,7 +7,7 @@ use Rattle.std.proofs.lemmas.Iterator.Consumers.{YieldsList-end, YieldsList-turn
 use Rattle.std.proofs.lemmas.Iterator.Adapters.{YieldsList-from_vec}
 use Rattle.row_space.specs.Subspace.{Subspace}
 use Rattle.finite_algebra.specs.Projections.{IsProjection}
-use Rattle.frobenius_split.specs.Points.{IsMaximalIdeal, AreMaximalIdeals, at}
+use Rattle.frobenius_split.specs.Points.{IsMaximalIdeal, AreMaximalIdeals}
 use Rattle.frobenius_split.specs.Idempotents.{AreIdempotentsOf}
 use Rattle.frobenius_split.specs.declared.local.LocalPoint.{LocalPoint}
 use Rattle.frobenius_split.proofs.local.local_points.Goals as goal
