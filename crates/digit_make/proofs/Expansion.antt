@@ -353,8 +353,8 @@ module _ (A : CurveData) (ms : List Monomial) (s : IsSetting A ms) where
       ap (λ z. add A.prime g (mul A.prime q z)) (combination_more A.prime a U k (omega arith) (e ∙ sym (length-map ms polynomial_of)) ∙ ap (λ z. add A.prime x (multiple A.prime c z)) at)
       ∙ ap (add A.prime g) (mul-add A.prime q x (multiple A.prime c (polynomial_of (get_or ms k unit))))
       ∙ ap (λ z. add A.prime g (add A.prime (mul A.prime q x) z))
-        (mul_comm A.prime q (multiple A.prime c (polynomial_of (get_or ms k unit))) ∙ multiple-mul A.prime c (polynomial_of (get_or ms k unit)) q
-        ∙ ap (multiple A.prime c) (mul_comm A.prime (polynomial_of (get_or ms k unit)) q ∙ variable_times A.prime v (get_or ms k unit) two))
+      (mul_comm A.prime q (multiple A.prime c (polynomial_of (get_or ms k unit))) ∙ multiple-mul A.prime c (polynomial_of (get_or ms k unit)) q
+      ∙ ap (multiple A.prime c) (mul_comm A.prime (polynomial_of (get_or ms k unit)) q ∙ variable_times A.prime v (get_or ms k unit) two))
       ∙ sym (add_assoc A.prime g (mul A.prime q x) (multiple A.prime c (polynomial_of (times (get_or ms k unit) (variable v)))))
       ∙ term_of A.prime c (times (get_or ms k unit) (variable v)) (add A.prime g (mul A.prime q x))
 

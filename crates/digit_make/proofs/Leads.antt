@@ -110,7 +110,7 @@ module _ (l : LiftedData) (h : IsLifted l) where
           (ap (normal l.prime) r ∙ canonical_same l.prime u k.poly.canonical)
           (ap (normal l.prime) (q ∙ e) ∙ canonical_same l.prime (sub l.prime (polynomial_of m) g) t_poly.canonical)
           ∙ rest_is (Space.Ring l.prime l.variables h.prime) (record { terms = polynomial_of m; is_poly = m_poly }) (record { terms = l.denominator.terms; is_poly = h.denominator.poly })
-            (record { terms = u; is_poly = k.poly }) (record { terms = g; is_poly = hg })
+          (record { terms = u; is_poly = k.poly }) (record { terms = g; is_poly = hg })
 
 -- what holds of the terms of each polynomial holds of those that are read
 pub low_read : (P : List Term → Type 0) (fs list : List Polynomial) (i : ℕ) (f : Polynomial) → All P (terms_of fs) → list ≡ fs → i < length list → f ≡ get_or list i f → P f.terms

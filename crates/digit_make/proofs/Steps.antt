@@ -310,8 +310,8 @@ module _ (plan : Plan) (h : IsPlan plan) where
       same : factors ≡ first
       same = e
           ∙ taken_is (length plan.corners) (length plan.corners * (t - r)) (length plan.corners * suc t) row
-            (let w : length plan.corners * suc t ≡ length plan.corners * (t - r) + length plan.corners * suc r = ap (λ z. length plan.corners * z) (let w : suc t ≡ t - r + suc r = omega arith in w) ∙ mul-add (length plan.corners) (t - r) (suc r) in omega arith)
-            (omega arith)
+          (let w : length plan.corners * suc t ≡ length plan.corners * (t - r) + length plan.corners * suc r = ap (λ z. length plan.corners * z) (let w : suc t ≡ t - r + suc r = omega arith in w) ∙ mul-add (length plan.corners) (t - r) (suc r) in omega arith)
+          (omega arith)
           ∙ ap (λ z. take (length plan.corners) (drop (length plan.corners * z) front)) (let w : t - r ≡ suc t - suc r = omega arith in w)
 
   pub tail_end : (v t r : ℕ) (m : Monomial) (row out : List ℕ) → v < (curve_of plan).variables → IsAffine (curve_of plan).variables m → IsKnown (curve_of plan) plan.corners m row

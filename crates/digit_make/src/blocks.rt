@@ -234,11 +234,27 @@ fn put_block(
             Place::Corner(_) => Err(not_made()),
             Place::Border(j) => {
                 let factor = &plan.border.as_slice()[j];
-                put_product_block(plan, rows, *v, factor, rows.border.as_slice()[j].as_slice(), t, out)
+                put_product_block(
+                    plan,
+                    rows,
+                    *v,
+                    factor,
+                    rows.border.as_slice()[j].as_slice(),
+                    t,
+                    out,
+                )
             }
             Place::Outer(j) => {
                 let factor = &plan.outer.as_slice()[j];
-                put_product_block(plan, rows, *v, factor, rows.outer.as_slice()[j].as_slice(), t, out)
+                put_product_block(
+                    plan,
+                    rows,
+                    *v,
+                    factor,
+                    rows.outer.as_slice()[j].as_slice(),
+                    t,
+                    out,
+                )
             }
         },
     }

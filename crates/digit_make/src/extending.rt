@@ -71,7 +71,10 @@ fn digits_at<'a>(digits: &'a Digits, j: usize, m: &Mono) -> Option<&'a [u32]>
 fn outer_digits<'a>(digits: &'a Digits, m: &Mono) -> Option<&'a [u32]>
     ensures { IfSome result (λ row. IsKnown (data_of digits.now.curve) digits.now.basis m.now row.now) }
 {
-    match digits.outer().binary_search_by(|row| Mono::cmp_dp(&row.monomial, m)) {
+    match digits
+        .outer()
+        .binary_search_by(|row| Mono::cmp_dp(&row.monomial, m))
+    {
         Ok(j) => digits_at(digits, j, m),
         Err(_) => None,
     }

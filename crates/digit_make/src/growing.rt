@@ -18,12 +18,7 @@ pub(crate) fn longer(row: List<u32>, block: &[u32]) -> Result<List<u32>, NoMemor
 }
 
 // Puts the block behind the row number `j`.
-fn lengthen(
-    alloc: Global,
-    rows: &mut [List<u32>],
-    j: usize,
-    block: &[u32],
-) -> Result<(), NoMemory>
+fn lengthen(alloc: Global, rows: &mut [List<u32>], j: usize, block: &[u32]) -> Result<(), NoMemory>
     requires { j < length rows.old }
     ensures { OnOk result (rows.new ≡ slice_set rows.old j (slice_index_or rows.old j [] ++ block.now)) }
 {

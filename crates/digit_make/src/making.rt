@@ -132,11 +132,7 @@ fn border_row(alloc: Global, wide: usize, row: &[u32]) -> Result<List<u32>, NoMe
 }
 
 // The rows of the border, each of the length, without the zeros at their ends.
-fn border_rows(
-    alloc: Global,
-    wide: usize,
-    rows: &[List<u32>],
-) -> Result<List<List<u32>>, NoMemory>
+fn border_rows(alloc: Global, wide: usize, rows: &[List<u32>]) -> Result<List<List<u32>>, NoMemory>
     ensures { IfOk result (AreTrimmed wide rows.now) }
 {
     let mut border = List::new(alloc);
@@ -148,12 +144,7 @@ fn border_rows(
 }
 
 // The monomial with its row, which has the length.
-fn outer_row(
-    alloc: Global,
-    wide: usize,
-    monomial: &Mono,
-    row: &[u32],
-) -> Result<OuterRow, NoMemory>
+fn outer_row(alloc: Global, wide: usize, monomial: &Mono, row: &[u32]) -> Result<OuterRow, NoMemory>
     ensures monomial { IfOk result (λ made. made.monomial ≡ monomial.now) }
     ensures digits { IfOk result (λ made. made.digits ≡ row.now) }
     ensures long { IfOk result (λ _. length row.now ≡ wide) }
@@ -187,7 +178,12 @@ fn outer_rows(
 }
 
 // The digits of the plan's curve at the depth, from rows that may be begun.
-pub(crate) fn digits_from(alloc: Global, plan: Plan, rows: Rows, depth: u32) -> Result<Digits, NoMemory>
+pub(crate) fn digits_from(
+    alloc: Global,
+    plan: Plan,
+    rows: Rows,
+    depth: u32,
+) -> Result<Digits, NoMemory>
     requires plan { IsPlan plan }
     requires rows { AreRowsOf plan rows }
     requires depth { depth ≤ 200 }
@@ -198,7 +194,12 @@ pub(crate) fn digits_from(alloc: Global, plan: Plan, rows: Rows, depth: u32) -> 
     let n = plan.corners.len();
     let border = border_rows(alloc, n * depth as usize, rows.border.as_slice())?;
     let before = (depth as usize).saturating_sub(1);
-    let outer = outer_rows(alloc, n * before, plan.outer.as_slice(), rows.outer.as_slice())?;
+    let outer = outer_rows(
+        alloc,
+        n * before,
+        plan.outer.as_slice(),
+        rows.outer.as_slice(),
+    )?;
     Ok(Digits::of_products(
         plan.curve,
         plan.corners,
@@ -210,7 +211,12 @@ pub(crate) fn digits_from(alloc: Global, plan: Plan, rows: Rows, depth: u32) -> 
 }
 
 // The digits where 1 is in the ideal of the curve and the denominator: all rows are empty.
-pub(crate) fn no_digits(alloc: Global, curve: &Arc<Curve>, corners: List<Mono>, depth: u32) -> Result<Digits, NoMemory>
+pub(crate) fn no_digits(
+    alloc: Global,
+    curve: &Arc<Curve>,
+    corners: List<Mono>,
+    depth: u32,
+) -> Result<Digits, NoMemory>
     requires fit { Fit curve.now.value }
     requires corners { AreCornersOf (data_of curve.now.value) corners }
     requires none { corners ≡ [] }

@@ -227,7 +227,10 @@ pub(crate) fn order_of(
     let mut counts: Vec<usize> = Vec::new(alloc);
     for v in 0..variables {
         let count = border_count(alloc, v, corners)?;
-        let place = counts.iter().position(|c| count < *c).unwrap_or(counts.len());
+        let place = counts
+            .iter()
+            .position(|c| count < *c)
+            .unwrap_or(counts.len());
         order.insert(place.min(order.len()), v)?;
         counts.insert(place, count)?;
     }

@@ -157,10 +157,7 @@ fn lead_rule(
 {
     let prime = lifted.prime();
     let _p = prime.get();
-    let term = Term {
-        coeff: 1,
-        mono: *m,
-    };
+    let term = Term { coeff: 1, mono: *m };
     let lead = Poly::from_term(alloc, prime, term)?;
     let tail = lead.sub(g)?;
     let tail_shares = shares_of(alloc, play, &tail)?;
@@ -197,12 +194,7 @@ fn rule_by(play: &Play, inside: bool, m: &Mono, v: u32) -> Option<Rule>
 }
 
 // The rule by the first variable of the list whose quotient has a place outside the corners.
-fn multiple_rule(
-    lifted: &Lifted,
-    play: &Play,
-    inside: bool,
-    m: &Mono,
-) -> Result<Rule, NoMemory>
+fn multiple_rule(lifted: &Lifted, play: &Play, inside: bool, m: &Mono) -> Result<Rule, NoMemory>
     requires { lifted.now.variables ≤ 6 }
     ensures { IfOk result (IsRuleIn (curve_of_lifted lifted.now) play.now.corners play.now.border play.now.outer m.now) }
 {

@@ -15,16 +15,16 @@ loop-i-preserved c =
     let inside : c.loop-i.i < length c.args.plan.now.corners = (let l = c.requires.factors.0 in omega (arith, c.loop-i-test.true)) in
     elim c.if-c-ne0.branch [
       | then-c-ne0+in_ok-add_block w ↦ record {
-          fits = subst (IsBlockRow plan) (sym w.out-is) w.in_ok-add_block.ensures.fits;
-          adds = subst (Adds plan c.args.t c.args.out.now (corners_multiple plan c.args.v (take (i + 1) factors))) (sym w.out-is)
-              (products_step plan c.requires.plan c.args.t c.args.v i (get_or factors i 0) w.product_place.result factors c.args.out.now c.loop-i.out w.add_block.new.out c.requires.v c.requires.factors inside refl
-              w.product_place.ensures.product c.loop-i.invariant.adds w.in_ok-add_block.ensures.adds);
-        }
+        fits = subst (IsBlockRow plan) (sym w.out-is) w.in_ok-add_block.ensures.fits;
+        adds = subst (Adds plan c.args.t c.args.out.now (corners_multiple plan c.args.v (take (i + 1) factors))) (sym w.out-is)
+            (products_step plan c.requires.plan c.args.t c.args.v i (get_or factors i 0) w.product_place.result factors c.args.out.now c.loop-i.out w.add_block.new.out c.requires.v c.requires.factors inside refl
+            w.product_place.ensures.product c.loop-i.invariant.adds w.in_ok-add_block.ensures.adds);
+      }
       | else-c-ne0 w ↦ record {
-          fits = subst (IsBlockRow plan) (sym w.out-is) c.loop-i.invariant.fits;
-          adds = subst (Adds plan c.args.t c.args.out.now (corners_multiple plan c.args.v (take (i + 1) factors))) (sym w.out-is)
-              (products_skip plan c.requires.plan c.args.t c.args.v i factors c.args.out.now c.loop-i.out c.requires.v c.requires.factors inside w.if-c-ne0.false c.loop-i.invariant.adds);
-        }
+        fits = subst (IsBlockRow plan) (sym w.out-is) c.loop-i.invariant.fits;
+        adds = subst (Adds plan c.args.t c.args.out.now (corners_multiple plan c.args.v (take (i + 1) factors))) (sym w.out-is)
+            (products_skip plan c.requires.plan c.args.t c.args.v i factors c.args.out.now c.loop-i.out c.requires.v c.requires.factors inside w.if-c-ne0.false c.loop-i.invariant.adds);
+      }
     ]
 
 pub returns-clause-adds : goal.returns-clause-adds
