@@ -120,11 +120,11 @@ module _ (A : CurveData) (c : IsFinite A) (ms : List Monomial) (k : AreCornersOf
         let w : List ℕ = combination (rows A.prime W) es old.basis in (
           x,
           (
-          es,
-          (let q : length (x ∷ es) ≡ length (row ∷ old.basis) = l in omega arith),
-          RM.trans {x = V.◌⊞◌ a (V.◌·◌ (A.prime - 1) y)} {y = V.◌⊞◌ (V.◌⊞◌ y w) (V.opposite y)} {z = w}
-          (RM.add_cong {x = a} {x' = V.◌⊞◌ y w} {y = V.◌·◌ (A.prime - 1) y} {y' = V.opposite y} e (opposite_row A.prime W (high A c.curve) (positive_of_prime A.prime c.curve.prime) y))
-          (Modules.add_undo_left Scalars RM w y)
+            es,
+            (let q : length (x ∷ es) ≡ length (row ∷ old.basis) = l in omega arith),
+            RM.trans {x = V.◌⊞◌ a (V.◌·◌ (A.prime - 1) y)} {y = V.◌⊞◌ (V.◌⊞◌ y w) (V.opposite y)} {z = w}
+                (RM.add_cong {x = a} {x' = V.◌⊞◌ y w} {y = V.◌·◌ (A.prime - 1) y} {y' = V.opposite y} e (opposite_row A.prime W (high A c.curve) (positive_of_prime A.prime c.curve.prime) y))
+                (Modules.add_undo_left Scalars RM w y),
           ),
         )
 
@@ -136,11 +136,11 @@ module _ (A : CurveData) (c : IsFinite A) (ms : List Monomial) (k : AreCornersOf
         let hy = poly_multiple A.prime A.variables w.0 m pos hm in (
           w.0,
           (
-          V.◌⊞◌ h.0 (V.◌·◌ (A.prime - 1) y),
-          laws.sum f (multiple A.prime (A.prime - 1) (multiple A.prime w.0 m)) h.0 (V.◌·◌ (A.prime - 1) y) hf
-          (poly_multiple A.prime A.variables (A.prime - 1) (multiple A.prime w.0 m) pos hy) h.1
-          (laws.multiple (A.prime - 1) (multiple A.prime w.0 m) y hy (laws.multiple w.0 m row hm d)),
-          down old o (V.◌⊞◌ h.0 (V.◌·◌ (A.prime - 1) y)) w.1
+            V.◌⊞◌ h.0 (V.◌·◌ (A.prime - 1) y),
+            laws.sum f (multiple A.prime (A.prime - 1) (multiple A.prime w.0 m)) h.0 (V.◌·◌ (A.prime - 1) y) hf
+                (poly_multiple A.prime A.variables (A.prime - 1) (multiple A.prime w.0 m) pos hy) h.1
+                (laws.multiple (A.prime - 1) (multiple A.prime w.0 m) y hy (laws.multiple w.0 m row hm d)),
+            down old o (V.◌⊞◌ h.0 (V.◌·◌ (A.prime - 1) y)) w.1,
           ),
         )
 

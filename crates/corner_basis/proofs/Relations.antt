@@ -83,8 +83,8 @@ module _ (A : CurveData) (c : IsFinite A) (ms : List Monomial) (k : AreCornersOf
       let y : List ℕ = V.◌·◌ e r in (
         V.◌⊞◌ y q.0,
         (laws A c ms k T).sum (multiple A.prime e (polynomial_of w)) (Sum cs ws) y q.0 (poly_multiple A.prime A.variables e (polynomial_of w) (pos A c ms k T) hw)
-        (sum_poly A.prime A.variables c.curve.prime cs (map polynomial_of ws) (monomial_polys A.prime A.variables c.curve.prime ws b))
-        ((laws A c ms k T).multiple e (polynomial_of w) r hw (d 0 (omega arith))) q.1,
+            (sum_poly A.prime A.variables c.curve.prime cs (map polynomial_of ws) (monomial_polys A.prime A.variables c.curve.prime ws b))
+            ((laws A c ms k T).multiple e (polynomial_of w) r hw (d 0 (omega arith))) q.1,
         (RM A c ms k T).add_cong {x = y} {x' = y} {y = q.0} {y' = combination V cs rs} ((RM A c ms k T).rfl y) q.2,
       )
 

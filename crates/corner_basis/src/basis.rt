@@ -99,12 +99,7 @@ fn normal_row(
 
 // The member of the ideal with the lead number `i` whose other monomials are no leads. The relations are those between the
 // leads and then the other monomials.
-fn member(
-    front: &Front,
-    found: &Staircase,
-    relations: &Space,
-    i: usize,
-) -> Result<Poly, NoMemory>
+fn member(front: &Front, found: &Staircase, relations: &Space, i: usize) -> Result<Poly, NoMemory>
     requires front { IsFront front.now }
     requires tried { AreTried front.now found.now }
     requires relations { HasRelations front.now found.now relations.now }

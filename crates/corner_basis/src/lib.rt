@@ -12,6 +12,5 @@ mod staircase;
 
 pub use basis::{reduced_basis_of, reduced_basis_of_front};
 
-
 #[cfg(test)]
 mod tests;

@@ -183,12 +183,7 @@ impl Staircase {
 
     // Tries the monomial number `next` of the queue, unless a lead divides it. Where it is no lead, its multiples by the
     // variables join the queue.
-    fn visit(
-        &mut self,
-        front: &Front,
-        next: usize,
-        queue: &mut Vec<Mono>,
-    ) -> Result<(), NoMemory>
+    fn visit(&mut self, front: &Front, next: usize, queue: &mut Vec<Mono>) -> Result<(), NoMemory>
         requires front { IsFront front.now }
         requires tried { AreTried front.now self.old }
         requires search { IsSearched front.now next queue.old.items self.old }

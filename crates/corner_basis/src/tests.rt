@@ -127,13 +127,7 @@ fn are(alloc: Global, found: &[Poly], wanted: &[Rows]) -> Result<bool, Fail> {
 }
 
 // Whether the first blocks of digits give this basis, the digits having so many blocks.
-fn gives(
-    alloc: Global,
-    text: &str,
-    depth: u32,
-    blocks: u32,
-    wanted: &[Rows],
-) -> Result<bool, Fail>
+fn gives(alloc: Global, text: &str, depth: u32, blocks: u32, wanted: &[Rows]) -> Result<bool, Fail>
     requires blocks { blocks ≤ depth }
     requires depth { depth ≤ 200 }
 {
@@ -148,7 +142,15 @@ fn gives(
 fn multiples_of_the_denominator(rt: HostRuntime) -> Result<(), Fail> {
     let alloc = rt.alloc();
     assert!(rt; gives(alloc, CUSP, 1, 1, &[&[(1, 0, 2)], &[(1, 2, 0)]])?);
-    assert!(rt; gives(alloc, CUSP, 2, 2, &[&[(1, 1, 2)], &[(1, 3, 0), (6, 0, 2)], &[(1, 0, 4)]])?);
+    assert!(rt;
+        gives(
+            alloc,
+            CUSP,
+            2,
+            2,
+            &[&[(1, 1, 2)], &[(1, 3, 0), (6, 0, 2)], &[(1, 0, 4)]]
+        )?
+    );
     Ok(())
 }
 
@@ -174,6 +176,12 @@ fn all_blocks(rt: HostRuntime) -> Result<(), Fail> {
     let digits = make(alloc, &s.curve, &s.lifted, 2)?;
     let space = zero_space(&digits, digits.depth());
     let found = reduced_basis_of(&digits, &space)?;
-    assert!(rt; are(alloc, found.as_slice(), &[&[(1, 1, 2)], &[(1, 3, 0), (6, 0, 2)], &[(1, 0, 4)]])?);
+    assert!(rt;
+        are(
+            alloc,
+            found.as_slice(),
+            &[&[(1, 1, 2)], &[(1, 3, 0), (6, 0, 2)], &[(1, 0, 4)]]
+        )?
+    );
     Ok(())
 }
