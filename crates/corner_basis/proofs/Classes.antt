@@ -1,5 +1,5 @@
 -- Polynomials by the spaces of rows that their digits are in.
-use Rattle.std.proofs.Common.{◌≡◌, ℕ, ◌+◌, ◌-◌, ◌*◌, ◌%◌, ◌<◌, List, [], ◌∷◌, map, length, refl, sym, ap, ◌∙◌, subst, arith, mod-eq_of_lt}
+use Rattle.std.proofs.Common.{◌≡◌, ℕ, ◌-◌, ◌*◌, ◌<◌, List, [], ◌∷◌, length, sym, ◌∙◌, subst, arith}
 use Rattle.comm_ring.specs.Ring.{CommRing}
 use Rattle.comm_ring.specs.Modules.{combine, combination, InSpan, IsSubmodule}
 use Rattle.comm_ring.specs.Rows.{rows}

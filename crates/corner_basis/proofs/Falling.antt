@@ -1,5 +1,5 @@
 -- A sum of multiples of rising monomials as a falling list of terms, and what the loop that makes it owes.
-use Rattle.std.proofs.Common.{◌≡◌, ◌≢◌, ℕ, ◌+◌, ◌-◌, ◌*◌, ◌%◌, ◌<◌, ◌≤◌, List, [], ◌∷◌, ◌++◌, map, length, get_or, drop, All, refl, sym, ap, ap₂, ◌∙◌, subst, arith, mod-eq_of_lt, get_or-drop}
+use Rattle.std.proofs.Common.{◌≡◌, ◌≢◌, ℕ, ◌+◌, ◌-◌, ◌*◌, ◌%◌, ◌<◌, ◌≤◌, List, [], ◌∷◌, ◌++◌, map, length, get_or, drop, All, sym, ap, ap₂, ◌∙◌, subst, arith, mod-eq_of_lt, get_or-drop}
 use Rattle.std.specs.List.{Contains}
 use Rattle.std.specs.declared.cmp.Ordering.TheVariants.{Less}
 use Rattle.std.proofs.lemmas.List.{drop_all, drop_more, get_or_default, length-drop}

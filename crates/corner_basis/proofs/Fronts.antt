@@ -1,17 +1,16 @@
 -- What is known of an ideal by its first blocks of digits, and of the monomials that the program has tried.
-use Rattle.std.proofs.Common.{◌≡◌, ◌⊎◌, inl, inr, ℕ, ◌+◌, ◌-◌, ◌*◌, ◌<◌, ◌≤◌, List, [], ◌∷◌, ◌++◌, map, length, get_or, take, All, refl, sym, ap, ◌∙◌, subst, arith, mul-le-mul, ⊎_elim}
-use Rattle.std.specs.List.{Contains}
+use Rattle.std.proofs.Common.{◌≡◌, ◌⊎◌, ℕ, ◌+◌, ◌-◌, ◌*◌, ◌<◌, ◌≤◌, List, [], ◌∷◌, ◌++◌, map, length, get_or, take, sym, ap, ◌∙◌, subst, arith, mul-le-mul, ⊎_elim}
 use Rattle.std.proofs.lemmas.Bool.{cases_lt}
-use Rattle.std.proofs.lemmas.List.{get_or_append_left, get_or-append-add, get_or_default, get_or-map, get_or_push, length-append, length-map, length_push}
+use Rattle.std.proofs.lemmas.List.{get_or_append_left, get_or-append-add, get_or-map, get_or_push, length-append, length_push}
 use Rattle.prime_field.proofs.Table.{above_one}
 use Rattle.monomials.specs.Mono.{Monomial, times, unit, variable}
 use Rattle.monomials.proofs.Order.{times_comm}
 use Rattle.polys.specs.declared.term.Term.{Term}
-use Rattle.polys.specs.Terms.{IsAffine, IsPoly, mul, normal}
-use Rattle.polys.specs.Curve.{CurveData, IsOver, data_of}
+use Rattle.polys.specs.Terms.{IsAffine, IsPoly, normal}
+use Rattle.polys.specs.Curve.{CurveData, data_of}
 use Rattle.curve_model.specs.Laws.{IsFinite}
 use Rattle.curve_laws.proofs.FitLaws.{fit_law}
-use Rattle.row_space.specs.Subspace.{Subspace, FitsIn, IsReduced}
+use Rattle.row_space.specs.Subspace.{Subspace, IsReduced}
 use Rattle.standard_monomials.specs.Standard.{polynomial_of}
 use Rattle.standard_monomials.proofs.Minimal.{one_term}
 use Rattle.standard_monomials.proofs.Powers.{affine_power}

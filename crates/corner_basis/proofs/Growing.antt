@@ -1,8 +1,7 @@
 -- One more monomial is tried: it joins those that are no leads, or the leads.
-use Rattle.std.proofs.Common.{◌≡◌, ◌⊎◌, inl, inr, ◌↔◌, ℕ, zero, suc, ◌+◌, ◌-◌, ◌*◌, ◌%◌, ◌<◌, ◌≤◌, List, [], ◌∷◌, ◌++◌, length, refl, sym, ap, ◌∙◌, subst, arith}
+use Rattle.std.proofs.Common.{◌≡◌, ◌⊎◌, inl, inr, ℕ, zero, suc, ◌+◌, ◌-◌, ◌*◌, ◌%◌, ◌<◌, ◌≤◌, List, [], ◌∷◌, ◌++◌, length, refl, sym, ap, ◌∙◌, subst, arith}
 use Rattle.std.specs.List.{AllPairs, Contains}
-use Rattle.std.specs.declared.cmp.Ordering.{Ordering}
-use Rattle.std.specs.declared.cmp.Ordering.TheVariants.{Less, Equal, Greater}
+use Rattle.std.specs.declared.cmp.Ordering.TheVariants.{Less, Equal}
 use Rattle.std.proofs.lemmas.List.{length_push}
 use Rattle.std.proofs.lemmas.List.Elements.{Contains-push, Contains-push_cases, Contains-append_left}
 use Rattle.comm_ring.specs.Ring.{CommRing}
@@ -12,9 +11,9 @@ use Rattle.comm_ring.proofs.Modules as Modules
 use Rattle.comm_ring.proofs.Quote.{ring, quote}
 use Rattle.monomials.specs.Mono.{Monomial, Divides, cmp_dp, total_degree}
 use Rattle.monomials.proofs.Factors.{divides_law}
-use Rattle.monomials.proofs.Order.{dp_total, multiple_not_less, self_dp, turn_down}
+use Rattle.monomials.proofs.Order.{dp_total, multiple_not_less, self_dp}
 use Rattle.polys.specs.declared.term.Term.{Term}
-use Rattle.polys.specs.Terms.{EachMono, IsAffine, IsCanonical, keep, add, sub, multiple}
+use Rattle.polys.specs.Terms.{EachMono, IsAffine, keep, add, sub, multiple}
 use Rattle.polys.specs.Curve.{CurveData}
 use Rattle.polys.proofs.Affine.{poly_add, poly_multiple}
 use Rattle.polys.proofs.Each.{every_add, every_more, every_multiple, every_zip}
@@ -23,9 +22,9 @@ use Rattle.ideal_laws.proofs.Unique.{contains_head, contains_tail, contains_none
 use Rattle.curve_model.specs.Laws.{IsFinite}
 use Rattle.curve_laws.proofs.Base.{Ring, member}
 use Rattle.row_space.specs.Subspace.{Subspace, Gains, IsIn, IsSumOfBasis}
-use Rattle.standard_monomials.specs.Standard.{AreMinimal, IsRising, polynomial_of}
+use Rattle.standard_monomials.specs.Standard.{polynomial_of}
 use Rattle.standard_monomials.proofs.Lists.{pairs_cons, pairs_head, pairs_none, pairs_tail}
-use Rattle.digit_laws.specs.Digits.{AreCornersOf, AreDigits, IsOfDigits}
+use Rattle.digit_laws.specs.Digits.{AreCornersOf, AreDigits}
 use Rattle.digit_laws.proofs.Blocks.{multiple_none}
 use Rattle.digit_laws.proofs.Spaces.{affine_poly}
 use Rattle.corner_basis.specs.Staircase.{HasDivisor, IsAmong, IsClassOf, IsReducible, IsStaircase}

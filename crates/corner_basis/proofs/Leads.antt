@@ -1,9 +1,9 @@
 -- Where all monomials are tried, the leads of the ideal are the multiples of those that were found.
-use Rattle.std.proofs.Common.{◌≡◌, ◌⊎◌, inl, inr, ℕ, ◌+◌, ◌-◌, ◌*◌, ◌<◌, ◌≤◌, List, [], ◌∷◌, ◌++◌, map, length, All, refl, sym, ap, ◌∙◌, subst, arith}
+use Rattle.std.proofs.Common.{◌≡◌, ◌⊎◌, inl, inr, ℕ, ◌-◌, ◌*◌, ◌<◌, List, [], ◌∷◌, map, length, All, sym, ap, ◌∙◌, subst}
 use Rattle.std.specs.List.{Contains}
 use Rattle.std.specs.declared.cmp.Ordering.TheVariants.{Less, Greater}
 use Rattle.std.proofs.lemmas.List.Elements.{All-contains_itself, All-weaker, Contains-append_right}
-use Rattle.monomials.specs.Mono.{Monomial, Divides, cmp_dp}
+use Rattle.monomials.specs.Mono.{Monomial, cmp_dp}
 use Rattle.monomials.proofs.Factors.{divides_trans}
 use Rattle.monomials.proofs.Order.{turn_down, turn_up}
 use Rattle.polys.specs.declared.term.Term.{Term}
@@ -30,8 +30,8 @@ use Rattle.digit_laws.specs.Digits.{AreCornersOf, numerators, value}
 use Rattle.digit_laws.specs.Laws.{SpaceIsIdeal}
 use Rattle.digit_laws.proofs.DigitLaws.{gens, basis_of}
 use Rattle.digit_laws.proofs.Spaces.{affine_poly}
-use Rattle.corner_basis.specs.Staircase.{HasDivisor, IsReducible, IsStaircase}
-use Rattle.corner_basis.proofs.Classes.{pos, P, In}
+use Rattle.corner_basis.specs.Staircase.{HasDivisor, IsStaircase}
+use Rattle.corner_basis.proofs.Classes.{pos}
 
 -- the terms behind the lead are below it
 pub below_lead : (p : ℕ) (t : Term) (f : List Term) → IsCanonical p (t ∷ f) → EachMono (λ w. cmp_dp w t.mono ≡ Less) f

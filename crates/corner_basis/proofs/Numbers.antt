@@ -2,7 +2,7 @@
 use Rattle.std.proofs.Common.{◌≡◌, ℕ, zero, suc, ◌+◌, ◌-◌, ◌*◌, ◌%◌, ◌<◌, List, [], ◌∷◌, ◌++◌, map, length, get_or, set, replicate, All, refl, sym, ap, ap₂, ◌∙◌, subst, arith, mod-eq_of_lt}
 use Rattle.std.specs.List.{Contains}
 use Rattle.std.proofs.lemmas.List.Elements.{All-head, All-tail}
-use Rattle.comm_ring.specs.Modules.{combination, module_through, InSpan}
+use Rattle.comm_ring.specs.Modules.{combination, module_through}
 use Rattle.comm_ring.specs.Rows.{rows}
 use Rattle.comm_ring.proofs.Fields.{residue_coefficients}
 use Rattle.comm_ring.proofs.Modules as Modules

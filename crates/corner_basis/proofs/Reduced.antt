@@ -1,5 +1,5 @@
 -- The members with the leads that were found are the reduced basis.
-use Rattle.std.proofs.Common.{◌≡◌, ◌⊎◌, inl, inr, ◌↔◌, ℕ, zero, suc, ◌<◌, List, [], ◌∷◌, map, length, get_or, All, refl, sym, ap, ap₂, ◌∙◌, subst, arith}
+use Rattle.std.proofs.Common.{◌≡◌, inr, ℕ, suc, ◌<◌, List, [], ◌∷◌, map, length, get_or, All, refl, sym, ap, ◌∙◌, subst, arith}
 use Rattle.std.specs.List.{AllPairs, Contains}
 use Rattle.std.specs.declared.cmp.Ordering.TheVariants.{Less}
 use Rattle.std.proofs.lemmas.List.{get_or_default}
@@ -22,7 +22,7 @@ use Rattle.standard_monomials.proofs.Lists.{each_of}
 use Rattle.standard_monomials.proofs.Minimal.{no_divisor}
 use Rattle.digit_laws.specs.Digits.{AreCornersOf, numerators}
 use Rattle.digit_laws.specs.Laws.{SpaceIsIdeal}
-use Rattle.corner_basis.specs.Staircase.{AreTailed, HasDivisor, IsAmong, IsPassed, IsStaircase, IsTailed}
+use Rattle.corner_basis.specs.Staircase.{AreTailed, HasDivisor, IsPassed, IsStaircase, IsTailed}
 use Rattle.corner_basis.proofs.Leads.{all_leads}
 use Rattle.corner_basis.proofs.Classes.{pos, In}
 

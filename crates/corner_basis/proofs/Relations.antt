@@ -1,10 +1,10 @@
 -- The relations between the monomials give the members of the basis.
-use Rattle.std.proofs.Common.{◌≡◌, ◌⊎◌, inl, inr, ◌↔◌, ℕ, zero, suc, ◌+◌, ◌-◌, ◌*◌, ◌%◌, ◌<◌, ◌≤◌, List, [], ◌∷◌, ◌++◌, map, length, get_or, set, drop, replicate, All, refl, sym, ap, ap₂, ◌∙◌, subst, arith, mod-eq_of_lt, ⊎_elim, get_or-drop}
+use Rattle.std.proofs.Common.{◌≡◌, ◌⊎◌, inl, inr, ◌↔◌, ℕ, zero, suc, ◌+◌, ◌-◌, ◌%◌, ◌<◌, ◌≤◌, List, [], ◌∷◌, ◌++◌, map, length, get_or, set, drop, replicate, All, refl, sym, ap, ap₂, ◌∙◌, subst, arith, mod-eq_of_lt, ⊎_elim, get_or-drop}
 use Rattle.std.specs.List.{Contains}
 use Rattle.std.specs.declared.cmp.Ordering.TheVariants.{Less}
 use Rattle.std.proofs.lemmas.Bool.{cases_lt}
-use Rattle.std.proofs.lemmas.List.{get_or_append_left, get_or_default, get_or-map, length-append, length-map, length-replicate, length-set}
-use Rattle.std.proofs.lemmas.List.Elements.{All-append, All-contains, All-contains_itself, All-head, All-weaker, All-nil, All-tail, Contains-append_cases, Contains-append_left}
+use Rattle.std.proofs.lemmas.List.{get_or_append_left, get_or-map, length-append, length-map, length-replicate, length-set}
+use Rattle.std.proofs.lemmas.List.Elements.{All-append, All-contains_itself, All-head, All-weaker, All-tail, Contains-append_cases}
 use Rattle.comm_ring.specs.Ring.{CommRing}
 use Rattle.comm_ring.specs.Modules.{combine, combination, IsSubmodule}
 use Rattle.comm_ring.specs.Rows.{rows}
@@ -15,15 +15,14 @@ use Rattle.comm_ring.proofs.Rows.{row_module}
 use Rattle.lane_rows.specs.Rows.{IsFirstNonzero}
 use Rattle.monomials.specs.Mono.{Monomial, cmp_dp, unit}
 use Rattle.polys.specs.declared.term.Term.{Term}
-use Rattle.polys.specs.Terms.{EachMono, IsAffine, IsPoly, add, sub, multiple, coefficient}
+use Rattle.polys.specs.Terms.{EachMono, IsAffine, IsPoly, sub, multiple, coefficient}
 use Rattle.polys.specs.Ideal.{number_combination}
 use Rattle.polys.specs.Curve.{CurveData}
-use Rattle.polys.proofs.Affine.{poly_add, poly_multiple, poly_none, poly_sub}
-use Rattle.polys.proofs.Each.{every_add, every_more, every_multiple}
+use Rattle.polys.proofs.Affine.{poly_multiple, poly_none, poly_sub}
+use Rattle.polys.proofs.Each.{every_more, every_multiple}
 use Rattle.polys.proofs.Units.{canonical_same}
 use Rattle.curve_model.specs.Laws.{IsFinite}
-use Rattle.curve_laws.proofs.Base.{high, Ring, member}
-use Rattle.row_space.specs.Echelon.{IsRow}
+use Rattle.curve_laws.proofs.Base.{Ring, member}
 use Rattle.row_space.specs.Subspace.{Subspace, DifferIn, FitsIn, IsIn, IsZeroAtPivots, product}
 use Rattle.standard_monomials.specs.Standard.{polynomial_of}
 use Rattle.standard_monomials.proofs.Rising.{rising_distinct}
@@ -32,7 +31,7 @@ use Rattle.digit_laws.specs.Digits.{AreCornersOf, AreDigits, IsOfDigits}
 use Rattle.digit_laws.proofs.Blocks.{zeros_row}
 use Rattle.digit_laws.proofs.Linear.{row-length}
 use Rattle.digit_laws.proofs.Spaces.{affine_poly}
-use Rattle.corner_basis.specs.Staircase.{AreRelations, IsAmong, IsClassOf, IsStaircase, IsTailed}
+use Rattle.corner_basis.specs.Staircase.{AreRelations, IsStaircase, IsTailed}
 use Rattle.corner_basis.proofs.Numbers.{behind_zeros, difference_sum, numbers_of, one_number, sum_poly}
 use Rattle.corner_basis.proofs.Leads.{lead_stays}
 use Rattle.corner_basis.proofs.Classes.{pos, P, W, laws, Span, RM, Scalars, In, up, down, k_multiple, k_row}

@@ -1,5 +1,5 @@
 -- The steps of the search: the queue after a monomial is tried.
-use Rattle.std.proofs.Common.{◌≡◌, ◌≢◌, ◌⊎◌, inl, inr, ◌↔◌, ℕ, zero, suc, ◌+◌, ◌-◌, ◌*◌, ◌<◌, ◌≤◌, List, [], ◌∷◌, ◌++◌, map, length, get_or, refl, sym, ap, ◌∙◌, subst, arith}
+use Rattle.std.proofs.Common.{◌≡◌, ◌≢◌, ◌⊎◌, inl, inr, ℕ, ◌+◌, ◌-◌, ◌<◌, ◌≤◌, List, [], ◌∷◌, ◌++◌, map, length, get_or, sym, ap, ◌∙◌, subst, arith}
 use Rattle.std.specs.List.{Contains}
 use Rattle.std.specs.declared.cmp.Ordering.{Ordering}
 use Rattle.std.specs.declared.cmp.Ordering.TheVariants.{Less, Equal, Greater}
@@ -17,13 +17,13 @@ use Rattle.ideal_laws.proofs.Unique.{contains_cases, contains_head, contains_non
 use Rattle.graded_modules.specs.Vector.{lead_mono}
 use Rattle.graded_modules.specs.Module.{IsLeadMultiple}
 use Rattle.homogenising.proofs.Found.{search_lead}
-use Rattle.standard_monomials.specs.Standard.{IsRising, IsStandard, polynomial_of}
+use Rattle.standard_monomials.specs.Standard.{IsStandard, polynomial_of}
 use Rattle.standard_monomials.specs.Finding.{GainsMultiples, IsNext}
 use Rattle.standard_monomials.proofs.Lists.{contains_map, contained_map}
 use Rattle.standard_monomials.proofs.Powers.{affine_power}
 use Rattle.standard_monomials.proofs.Search.{found_law}
 use Rattle.standard_monomials.proofs.Steps.{degree_next}
-use Rattle.corner_basis.specs.Staircase.{HasDivisor, IsAmong, IsPassed, IsSearch, steps_left}
+use Rattle.corner_basis.specs.Staircase.{HasDivisor, IsAmong, IsPassed, IsSearch}
 
 -- at first 1 alone is to be tried
 pub search_start : (n : ℕ) → IsSearch n 0 (unit ∷ []) [] []

@@ -1,5 +1,5 @@
 -- Before any monomial is tried; and the dimension of a space is at most the length of its rows.
-use Rattle.std.proofs.Common.{◌≡◌, inl, inr, ℕ, ◌+◌, ◌-◌, ◌*◌, ◌<◌, ◌≤◌, ◌↔◌, List, [], ◌∷◌, ◌++◌, length, get_or, refl, sym, ap, ◌∙◌, subst, arith, ⊎_elim}
+use Rattle.std.proofs.Common.{◌≡◌, inl, inr, ℕ, ◌+◌, ◌*◌, ◌<◌, ◌≤◌, List, [], ◌∷◌, ◌++◌, length, get_or, refl, sym, ap, ◌∙◌, subst, arith, ⊎_elim}
 use Rattle.std.specs.List.{Contains}
 use Rattle.std.proofs.lemmas.Bool.{cases_lt}
 use Rattle.comm_ring.proofs.Pigeons.{pigeonhole}
@@ -17,7 +17,7 @@ use Rattle.row_space.specs.Subspace.{Subspace, IsIn, IsReduced, Joins}
 use Rattle.row_space.proofs.Members.{span_of, weighted_of}
 use Rattle.row_space.proofs.Weights.{through}
 use Rattle.digit_laws.specs.Digits.{AreCornersOf, IsOfDigits}
-use Rattle.corner_basis.specs.Staircase.{HasDivisor, IsAmong, IsClassOf, IsStaircase}
+use Rattle.corner_basis.specs.Staircase.{IsAmong, IsClassOf, IsStaircase}
 use Rattle.corner_basis.proofs.Classes.{pos, P, In, k_same, moved_in}
 
 -- each pivot is one of the places

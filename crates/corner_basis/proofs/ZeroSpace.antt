@@ -1,12 +1,12 @@
 -- The zero space of rows is an ideal, that of the multiples of d^T.
-use Rattle.std.proofs.Common.{◌≡◌, ℕ, ◌-◌, ◌*◌, ◌%◌, ◌<◌, List, [], ◌∷◌, length, sym, ap, ◌∙◌, subst, refl}
+use Rattle.std.proofs.Common.{◌≡◌, ℕ, ◌-◌, ◌*◌, ◌<◌, List, [], ◌∷◌, length, sym, ◌∙◌, subst, refl}
 use Rattle.comm_ring.specs.Modules.{combine, combination, InSpan}
 use Rattle.comm_ring.specs.Rows.{rows}
 use Rattle.comm_ring.proofs.Modules as Modules
 use Rattle.comm_ring.proofs.Rows.{equal_rows}
 use Rattle.monomials.specs.Mono.{Monomial, variable}
 use Rattle.polys.specs.declared.term.Term.{Term}
-use Rattle.polys.specs.Terms.{IsPoly, normal, add, sub, mul, multiple}
+use Rattle.polys.specs.Terms.{normal, sub, mul, multiple}
 use Rattle.polys.specs.Curve.{CurveData}
 use Rattle.polys.proofs.Affine.{poly_add, poly_mul, poly_none}
 use Rattle.polys.proofs.Sums.{add_normal_left, mul_normal_right, normal_normal}
@@ -22,7 +22,7 @@ use Rattle.standard_monomials.proofs.Powers.{affine_power}
 use Rattle.digit_laws.specs.Digits.{AreCornersOf, AreDigits, HasDigitsIn, IsIdealSpace, value}
 use Rattle.digit_laws.proofs.DigitLaws.{gens, value_poly}
 use Rattle.digit_laws.proofs.Spaces.{affine_poly}
-use Rattle.corner_basis.proofs.Classes.{pos, P, W, laws, RM, Scalars, moved_in}
+use Rattle.corner_basis.proofs.Classes.{pos, P, laws, RM, Scalars, moved_in}
 
 module _ (A : CurveData) (c : IsFinite A) (ms : List Monomial) (k : AreCornersOf A ms) (T : ℕ) where
   abbrev G : List (List Term)

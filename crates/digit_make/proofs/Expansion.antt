@@ -1,5 +1,5 @@
 -- Blocks of digits: sums and multiples, powers of d, one block more.
-use Rattle.std.proofs.Common.{◌≡◌, ◌↔◌, ℕ, zero, suc, ◌+◌, ◌-◌, ◌*◌, ◌%◌, ◌<◌, ◌≤◌, List, [], ◌∷◌, ◌++◌, map, length, get_or, set, take, drop, replicate, refl, sym, ap, ap₂, ◌∙◌, subst, arith}
+use Rattle.std.proofs.Common.{◌≡◌, ℕ, zero, suc, ◌+◌, ◌-◌, ◌*◌, ◌%◌, ◌<◌, ◌≤◌, List, [], ◌∷◌, ◌++◌, map, length, get_or, set, take, drop, replicate, refl, sym, ap, ap₂, ◌∙◌, subst, arith}
 use Rattle.std.specs.List.{All}
 use Rattle.std.proofs.lemmas.List.{length-append, length-drop, length-map, length-replicate, length-set, length-take-le, take-append-drop, get_or-take, get_or-drop, get_or-replicate, get_or-map, get_or_append_left, get_or-append_right, get_or-set_same, get_or-set_other, ext_get_or}
 use Rattle.std.proofs.lemmas.List.Elements.{All-append, All-get_or, All-replicate, All-set, All-take, All-drop}
@@ -17,10 +17,10 @@ use Rattle.prime_field.proofs.Table.{positive_of_prime, above_one}
 use Rattle.monomials.specs.Mono.{Monomial, unit, times, variable}
 use Rattle.monomials.proofs.Order.{times_comm}
 use Rattle.polys.specs.declared.term.Term.{Term}
-use Rattle.polys.specs.Terms.{IsAffine, IsPoly, normal, keep, add, sub, mul, multiple}
+use Rattle.polys.specs.Terms.{IsAffine, IsPoly, normal, add, sub, mul, multiple}
 use Rattle.polys.specs.Ideal.{InIdeal, number_combination}
 use Rattle.polys.specs.Curve.{CurveData}
-use Rattle.polys.proofs.Affine.{poly_none, poly_add, poly_mul, poly_multiple}
+use Rattle.polys.proofs.Affine.{poly_none, poly_mul, poly_multiple}
 use Rattle.polys.proofs.Sums.{add_assoc, add_comm, add_normal_right, mul-add, mul_assoc, mul_comm}
 use Rattle.polys.proofs.Units.{add_none, canonical_same, sub_self}
 use Rattle.polys.proofs.Weights.{mod_plus}
@@ -29,7 +29,7 @@ use Rattle.ideal_laws.proofs.Multiples.{multiple-mul, multiple_one, multiple_zer
 use Rattle.curve_model.specs.Fraction.{denominator_power}
 use Rattle.row_space.specs.Echelon.{IsRow}
 use Rattle.standard_monomials.specs.Standard.{polynomial_of}
-use Rattle.digit_laws.specs.Digits.{places, value, AreDigits}
+use Rattle.digit_laws.specs.Digits.{value, AreDigits}
 use Rattle.digit_laws.specs.Laws.{DigitsAreCoordinates, BlocksAreDepths}
 use Rattle.digit_make.specs.Blocks.{IsBlock}
 

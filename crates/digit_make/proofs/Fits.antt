@@ -1,11 +1,11 @@
 -- An ideal of infinite dimension is proper, and what makes a curve of bases fit.
-use Rattle.std.proofs.Common.{◌≡◌, ℕ, ◌<◌, ◌≤◌, List, [], ◌∷◌, refl, sym, subst}
+use Rattle.std.proofs.Common.{◌≡◌, ℕ, ◌<◌, ◌≤◌, List, [], refl, sym, subst}
 use Rattle.std.proofs.lemmas.List.Elements.{All-nil}
 use Rattle.polys.specs.declared.curve.Curve.{Curve}
 use Rattle.polys.specs.declared.term.Term.{Term}
 use Rattle.polys.specs.Curve.{Fit}
 use Rattle.polys.specs.Poly.{terms_of}
-use Rattle.polys.specs.Terms.{IsPoly, degree_of, mul, one}
+use Rattle.polys.specs.Terms.{IsPoly, degree_of, one}
 use Rattle.polys.specs.Ideal.{InIdeal, HasInfiniteDim, Regular}
 use Rattle.polys.proofs.Affine.{positive, sevens_of}
 use Rattle.polys.proofs.Units.{mul_one, add_none}

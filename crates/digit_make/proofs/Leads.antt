@@ -1,11 +1,10 @@
 -- The corners by a reduced basis, and the rule of a lead.
-use Rattle.std.proofs.Common.{◌≡◌, ℕ, ◌+◌, ◌-◌, ◌*◌, ◌<◌, ◌≤◌, List, [], ◌∷◌, ◌++◌, map, length, get_or, refl, sym, ap, ap₂, ◌∙◌, subst, arith}
+use Rattle.std.proofs.Common.{◌≡◌, ℕ, ◌+◌, ◌-◌, ◌<◌, ◌≤◌, List, [], ◌∷◌, ◌++◌, length, get_or, sym, ap, ap₂, ◌∙◌, subst, arith}
 use Rattle.std.proofs.lemmas.List.{get_or_default, get_or-map, length-map}
 use Rattle.std.specs.List.{All, Contains}
 use Rattle.std.proofs.lemmas.List.Elements.{All-cons, All-weaker, All-contains, All-contains_itself, All-get_or, All-map}
 use Rattle.comm_ring.specs.Ring.{CommRing}
 use Rattle.comm_ring.proofs.Quote.{ring, quote}
-use Rattle.prime_field.specs.Primes.{IsPrime}
 use Rattle.prime_field.proofs.Table.{positive_of_prime, above_one}
 use Rattle.monomials.specs.Mono.{Monomial}
 use Rattle.polys.specs.declared.term.Term.{Term}
@@ -13,11 +12,9 @@ use Rattle.polys.specs.Terms.{IsAffine, IsPoly, normal, add, sub, mul}
 use Rattle.polys.specs.Ideal.{InIdeal, HasDim, HasInfiniteDim, Spans, number_combination}
 use Rattle.polys.specs.Poly.{Polynomial, terms_of}
 use Rattle.polys.specs.Curve.{IsOver}
-use Rattle.polys.proofs.Affine.{poly_mul, poly_sub}
-use Rattle.polys.proofs.Sums.{mul_comm}
+use Rattle.polys.proofs.Affine.{poly_sub}
 use Rattle.polys.proofs.Units.{canonical_same}
 use Rattle.ideal_laws.proofs.Ideals.{in_generator, in_poly}
-use Rattle.homogenising.specs.Laws.{HasAffineLeads}
 use Rattle.standard_monomials.specs.Finding.{HasDimAbove}
 use Rattle.standard_monomials.specs.Standard.{AreStandard, IsRising, IsStandardBasis, polynomial_of}
 use Rattle.standard_monomials.proofs.Bases.{reduced_law}

@@ -1,5 +1,5 @@
 -- From a plan and its rows to digits.
-use Rattle.std.proofs.Common.{◌≡◌, ℕ, suc, ◌+◌, ◌-◌, ◌*◌, ◌<◌, ◌≤◌, List, [], ◌∷◌, ◌++◌, map, length, get_or, replicate, refl, sym, ap, ap₂, ◌∙◌, subst, arith}
+use Rattle.std.proofs.Common.{◌≡◌, ℕ, suc, ◌+◌, ◌-◌, ◌*◌, ◌<◌, ◌≤◌, List, [], ◌++◌, length, get_or, replicate, sym, ap, ◌∙◌, subst, arith}
 use Rattle.std.specs.List.{All}
 use Rattle.std.proofs.lemmas.List.{get_or-replicate, length-replicate}
 use Rattle.std.proofs.lemmas.List.Elements.{All-get_or}
@@ -8,14 +8,13 @@ use Rattle.prime_field.specs.Primes.{IsPrime}
 use Rattle.prime_field.proofs.Table.{above_one}
 use Rattle.monomials.specs.Mono.{Monomial, unit, times, variable}
 use Rattle.polys.specs.declared.curve.Curve.{Curve}
-use Rattle.polys.specs.Terms.{IsAffine, mul}
-use Rattle.polys.specs.Poly.{Polynomial, terms_of}
+use Rattle.polys.specs.Terms.{IsAffine}
+use Rattle.polys.specs.Poly.{terms_of}
 use Rattle.polys.specs.Curve.{CurveData, Fit, data_of}
-use Rattle.polys.proofs.Affine.{poly_none}
 use Rattle.standard_monomials.specs.Standard.{polynomial_of}
 use Rattle.lift_colon.specs.Lifted.{LiftedData}
 use Rattle.digit_laws.specs.Digits.{AreCornersOf, AreDigits}
-use Rattle.digit_space.specs.Model.{DigitData, HasProducts, HasOuterRows, IsProduct, AreFirstDigits, IsDigitsOf, times_variable, corner, width}
+use Rattle.digit_space.specs.Model.{DigitData, HasProducts, HasOuterRows, IsProduct, IsDigitsOf, times_variable, corner}
 use Rattle.digit_space.specs.declared.products.OuterRow.{OuterRow}
 use Rattle.digit_space.specs.declared.products.Product.{Product}
 use Rattle.digit_space.specs.declared.products.Product.TheVariants.{Corner, Border}

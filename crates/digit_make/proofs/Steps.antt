@@ -3,7 +3,6 @@ use Rattle.std.proofs.Common.{◌≡◌, ℕ, zero, suc, ◌+◌, ◌-◌, ◌*�
 use Rattle.std.specs.List.{All}
 use native.Mathlib.Decide.{ℕ_discrete}
 use Rattle.std.proofs.Math.Nat.{le_of_mul-le-mul_left, le_antisymm}
-use Rattle.std.specs.Simd.Lanes.{zip2}
 use Rattle.std.proofs.lemmas.List.{append_assoc, drop-drop, ext_get_or, get_or_default, get_or-map, get_or-replicate, get_or-set_other, get_or-set_same, get_or-take, get_or-drop, length-drop, length-map, length-set, length-take-le, take_all, take_more, take-append-drop}
 use Rattle.std.proofs.lemmas.List.Elements.{All-get_or, All-head, All-tail, All-take, All-drop}
 use Rattle.std.specs.Prelude.{Result, Ok, Err, OnOk}

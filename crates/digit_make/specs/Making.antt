@@ -1,5 +1,5 @@
 -- What the makers of digits take.
-use Rattle.std.specs.Prelude.{◌≡◌, ℕ, ◌++◌, ◌-◌, ◌<◌, ◌≤◌, List, [], length, replicate, slice_index_or, take}
+use Rattle.std.specs.Prelude.{◌≡◌, ℕ, ◌++◌, ◌-◌, ◌<◌, ◌≤◌, List, length, replicate, slice_index_or, take}
 use Rattle.monomials.specs.Mono.{Monomial, unit}
 use Rattle.polys.specs.declared.curve.Curve.{Curve}
 use Rattle.polys.specs.declared.term.Term.{Term}

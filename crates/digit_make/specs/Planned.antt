@@ -1,5 +1,5 @@
 -- What holds of a plan.
-use Rattle.std.specs.Prelude.{◌≡◌, ℕ, ◌+◌, ◌*◌, ◌<◌, ◌≤◌, List, [], length, map, slice_index_or, All}
+use Rattle.std.specs.Prelude.{◌≡◌, ℕ, ◌+◌, ◌*◌, ◌<◌, ◌≤◌, List, length, map, slice_index_or, All}
 use Rattle.prime_field.specs.Primes.{IsPrime}
 use Rattle.monomials.specs.Mono.{Monomial, unit, times, variable}
 use Rattle.polys.specs.declared.term.Term.{Term}
@@ -11,7 +11,7 @@ use Rattle.standard_monomials.specs.Standard.{polynomial_of}
 use Rattle.digit_laws.specs.Digits.{AreCornersOf}
 use Rattle.digit_space.specs.declared.products.Product.{Product}
 use Rattle.digit_space.specs.declared.products.Product.TheVariants.{Corner as AtCorner, Border as AtBorder}
-use Rattle.digit_make.specs.Blocks.{AreKnown, IsBlock, IsKnown}
+use Rattle.digit_make.specs.Blocks.{AreKnown, IsBlock}
 use Rattle.digit_make.specs.declared.plan.Place.{Place}
 use Rattle.digit_make.specs.declared.plan.Place.TheVariants.{Corner, Border, Outer}
 use Rattle.digit_make.specs.declared.plan.Plan.{Plan}

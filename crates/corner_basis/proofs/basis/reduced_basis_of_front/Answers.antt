@@ -1,6 +1,5 @@
-use Rattle.std.proofs.Common.{◌≡◌, ◌+◌, length, sym, ap, subst, ◌∙◌, arith}
+use Rattle.std.proofs.Common.{◌≡◌, ◌+◌, length, sym, subst, ◌∙◌, arith}
 use Rattle.corner_basis.specs.declared.front.Front.{Front}
-use Rattle.corner_basis.specs.Tried.{IsFront}
 use Rattle.corner_basis.proofs.Tried.{AreMembers, has_relations, matrix_fits, members_over, members_push, members_reduced}
 use Rattle.corner_basis.proofs.basis.reduced_basis_of_front.Goals as goal
 

@@ -1,4 +1,4 @@
-use Rattle.std.proofs.Common.{◌≡◌, ◌+◌, [], length, ap, subst, ◌∙◌, arith}
+use Rattle.std.proofs.Common.{◌≡◌, [], ap, subst, ◌∙◌, arith}
 use Rattle.monomials.specs.Mono.{Monomial, times, variable}
 use Rattle.ideal_laws.proofs.Unique.{contains_none}
 use Rattle.standard_monomials.specs.Finding.{GainsMonomial}

@@ -1,5 +1,4 @@
 use Rattle.std.proofs.Common.{◌≡◌, sym, subst, ◌∙◌}
-use Rattle.polys.specs.declared.curve.Curve.{Curve}
 use Rattle.polys.specs.Curve.{Fit}
 use Rattle.jacobian_pick.specs.Choice.{curve_of_lifted}
 use Rattle.digit_make.specs.Making.{IsLiftedOf}

@@ -1,4 +1,4 @@
-use Rattle.std.proofs.Common.{◌≤◌, ◌*◌, length, sym, ap, subst, ◌∙◌, arith, Fits, w64}
+use Rattle.std.proofs.Common.{◌*◌, length, sym, ap, subst, ◌∙◌, arith, Fits, w64}
 use Rattle.polys.specs.Curve.{data_of}
 use Rattle.corner_basis.proofs.Fronts.{finite, front_small}
 use Rattle.corner_basis.proofs.ZeroSpace.{zero_ideal}

@@ -1,6 +1,6 @@
-use Rattle.std.proofs.Common.{◌≡◌, ◌∙◌, ◌<◌, ◌∷◌, [], ap, sym, subst, length, get_or, ◌+◌, ◌%◌, rules}
+use Rattle.std.proofs.Common.{◌≡◌, ◌∙◌, ◌∷◌, [], ap, sym, subst, get_or, ◌+◌, ◌%◌, rules}
 use Rattle.std.specs.Prelude.{OnOk}
-use Rattle.digit_make.specs.Planned.{IsPlace, IsBlockRow, Adds, monomial_at}
+use Rattle.digit_make.specs.Planned.{IsPlace, Adds, monomial_at}
 use Rattle.digit_make.proofs.Steps.{read_residues, adds_read, adds_corner}
 use Rattle.digit_make.proofs.blocks.add_block.Goals as goal
 

@@ -1,4 +1,4 @@
-use Rattle.std.proofs.Common.{◌≡◌, ◌+◌, ◌<◌, length, get_or, take, arith, refl, sym, subst, rules}
+use Rattle.std.proofs.Common.{◌+◌, ◌<◌, length, get_or, take, arith, refl, sym, subst}
 use Rattle.digit_make.specs.Planned.{Adds, IsBlockRow, corners_multiple}
 use Rattle.digit_make.proofs.Steps.{products_start, products_step, products_skip, products_end}
 use Rattle.digit_make.proofs.blocks.add_products.Goals.{then-c-ne0+in_ok-add_block, else-c-ne0}

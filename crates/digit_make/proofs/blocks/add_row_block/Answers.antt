@@ -1,4 +1,4 @@
-use Rattle.std.proofs.Common.{◌≡◌, arith}
+use Rattle.std.proofs.Common.{arith}
 use Rattle.digit_make.proofs.Steps.{block_sum}
 use Rattle.digit_make.proofs.blocks.add_row_block.Goals as goal
 

@@ -1,8 +1,8 @@
-use Rattle.std.proofs.Common.{◌≡◌, ◌+◌, ◌-◌, ◌*◌, ◌<◌, ◌≤◌, suc, length, take, drop, replicate, arith, ap, sym, subst, ◌∙◌, rules}
-use Rattle.digit_make.specs.Planned.{IsBlockRow, Adds, corners_multiple, curve_of}
+use Rattle.std.proofs.Common.{◌+◌, ◌-◌, ◌*◌, ◌≤◌, length, take, drop, arith, ap, sym, subst}
+use Rattle.digit_make.specs.Planned.{IsBlockRow, curve_of}
 use Rattle.digit_make.proofs.Expansion.{zeros_fit}
 use Rattle.digit_make.proofs.Settings.{setting}
-use Rattle.digit_make.proofs.Steps.{IsTail, tail_start, tail_step, tail_end}
+use Rattle.digit_make.proofs.Steps.{tail_start, tail_step, tail_end}
 use Rattle.digit_make.proofs.blocks.put_product_block.Goals as goal
 
 pub loop-r-init : goal.loop-r-init

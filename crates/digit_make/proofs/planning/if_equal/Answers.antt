@@ -1,4 +1,4 @@
-use Rattle.std.proofs.Common.{◌≡◌, ◌<◌, sym, arith}
+use Rattle.std.proofs.Common.{sym, arith}
 use Rattle.digit_make.proofs.Found.{found}
 use Rattle.digit_make.proofs.planning.if_equal.Goals as goal
 

@@ -1,4 +1,4 @@
-use Rattle.std.proofs.Common.{◌≡◌, sym, ap, ◌∙◌, arith}
+use Rattle.std.proofs.Common.{sym, ap, ◌∙◌, arith}
 use Rattle.polys.specs.Terms.{degree_of}
 use Rattle.digit_make.proofs.Fits.{fit_by}
 use Rattle.digit_make.proofs.tests.fit_curve.Goals as goal
