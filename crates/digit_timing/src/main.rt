@@ -1,5 +1,6 @@
 //! The digits of a curve, for times: prints the dimension modulo the denominator, the depth and a checksum of the digits of the
-//! products of a variable and a corner, and the time that they took.
+//! products of a variable and a corner, whether digits at half the depth become these when they are made deeper, and the time
+//! that the digits took.
 //!
 //! The input is a problem, whose denominator is handed in or chosen; the first word is the depth, from 0 to 200, and a number
 //! above 0 behind it asks for the time.
@@ -10,7 +11,7 @@ ghost use Rattle.polys.specs.Curve.{Fit};
 ghost use Rattle.jacobian_pick.specs.Choice.{curve_of_lifted};
 ghost use Rattle.lift_colon.specs.Lifted.{LiftedData};
 
-use digit_make::make;
+use digit_make::{extended, make};
 use digit_space::Digits;
 use jacobian_pick::pick;
 use lift_colon::Lifted;
@@ -75,10 +76,21 @@ fn checksum(digits: &Digits) -> u32 {
     sum
 }
 
-// Digits, and the microseconds that they took.
+// The digits at half the depth, made deeper.
+fn grown(alloc: Global, curve: &Arc<Curve>, lifted: &Lifted, depth: u32) -> Result<Digits, NoMemory>
+    requires fit { Fit curve.now.value }
+    requires lifted { curve.now.value ≡ curve_of_lifted lifted.now }
+    requires depth { depth ≤ 200 }
+{
+    let low = make(alloc, curve, lifted, depth / 2)?;
+    extended(&low, lifted, depth)
+}
+
+// Digits, whether those at half of their depth, made deeper, are the same, and the microseconds that they took.
 #[derive(Drop)]
 struct Timed {
     digits: Digits,
+    alike: bool,
     time: u128,
 }
 
@@ -92,12 +104,20 @@ fn made_of(
     requires fit { Fit curve.now.value }
     requires lifted { curve.now.value ≡ curve_of_lifted lifted.now }
 {
+    let depth = depth.min(200);
     let start = Instant::now(rt)?;
-    let made = make(rt.alloc(), curve, lifted, depth.min(200));
+    let made = make(rt.alloc(), curve, lifted, depth);
     let time = start.elapsed(rt)?.as_micros();
-    match made {
-        Ok(digits) => Ok(Some(Timed { digits, time })),
-        Err(_) => Ok(None),
+    match (made, grown(rt.alloc(), curve, lifted, depth)) {
+        (Ok(digits), Ok(others)) => {
+            let alike = checksum(&digits) == checksum(&others);
+            Ok(Some(Timed {
+                digits,
+                alike,
+                time,
+            }))
+        }
+        _ => Ok(None),
     }
 }
 
@@ -126,7 +146,9 @@ fn number(rt: &HostRuntime, place: usize) -> io::Result<u32> {
 fn tell(rt: &HostRuntime, made: &Timed) -> io::Result<()> {
     let digits = &made.digits;
     let (dimension, depth, sum) = (digits.dimension(), digits.depth(), checksum(digits));
-    println!(rt; "dimension {dimension} depth {depth} checksum {sum}")
+    println!(rt; "dimension {dimension} depth {depth} checksum {sum}")?;
+    let word = if made.alike { "alike" } else { "otherwise" };
+    println!(rt; "grown {word}")
 }
 
 fn main(rt: HostRuntime) -> io::Result<()> {
