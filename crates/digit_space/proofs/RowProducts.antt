@@ -16,7 +16,7 @@ use Rattle.curve_laws.proofs.Base.{Ring, member}
 use Rattle.standard_monomials.specs.Standard.{polynomial_of}
 use Rattle.digit_space.specs.declared.products.Product.TheVariants.{Border}
 use Rattle.digit_space.specs.Model.{DigitData, IsDigitSpace, IsDigitRow, AreFirstDigits, IsDigitsOf, corner, times_variable, value_of}
-use Rattle.digit_space.specs.Adding.{HasMultiples, IsWithin, corner_multiple, rows_from}
+use Rattle.digit_space.specs.Adding.{AreMultiples, HasMultiples, IsWithin, corner_multiple, rows_from}
 use Rattle.digit_laws.proofs.DigitLaws.{value_poly}
 use Rattle.digit_laws.proofs.Spaces.{mono_product}
 use Rattle.digit_space.proofs.Spaced.{finite, laws, corner_poly}
@@ -65,15 +65,15 @@ module _ (g : DigitData) (s : IsDigitSpace g) where
       ∙ ap (mul g.curve.prime (value_of g row)) (sym (mono_product A (finite g s) g.basis s.corners g.depth (corner g j) (variable v)) ∙ ap polynomial_of e) in
       subst (λ z. IsDigitsOf g z made) same ((laws g s).product (polynomial_of (variable v)) (corner_multiple g row j) before made (variable_poly g s v lv) (multiple_poly row j lj) d m)
 
-  -- the rows of these multiples, in order
-  pub multiples_in_order : (row a : List ℕ) (rows : List (List ℕ)) → ((i : ℕ) → i < length g.basis → IsDigitsOf g (corner_multiple g row i) (get_or rows i []))
-      → HasMultiples g (value_of g row) a (rows_from rows None 0)
-  multiples_in_order row a rows h i l =
-      inr (subst (λ k. AreFirstDigits g (corner_multiple g row i) (get_or rows k [])) (let w : i ≡ 0 + i = omega arith in w) (whole_row g (corner_multiple g row i) (get_or rows i []) (h i l)))
+  -- the rows of multiples, in order
+  pub multiples_in_order : (q : List Term) (a : List ℕ) (rows : List (List ℕ)) → AreMultiples g q rows → HasMultiples g q a (rows_from rows None 0)
+  multiples_in_order q a rows h i l =
+      inr (subst (λ k. AreFirstDigits g (mul g.curve.prime q (polynomial_of (corner g i))) (get_or rows k [])) (let w : i ≡ 0 + i = omega arith in w)
+      (whole_row g (mul g.curve.prime q (polynomial_of (corner g i))) (get_or rows i []) (h i l)))
 
-  pub multiples_within : (row : List ℕ) (rows : List (List ℕ)) → length rows ≡ length g.basis → ((i : ℕ) → i < length g.basis → IsDigitsOf g (corner_multiple g row i) (get_or rows i []))
+  pub multiples_within : (rows : List (List ℕ)) → length rows ≡ length g.basis → ((i : ℕ) → i < length g.basis → IsDigitRow g (get_or rows i []))
       → (i : ℕ) → i < length g.basis → IsWithin g.curve.prime (length g.basis) rows (Border (0 + i))
-  multiples_within row rows e h i l = (omega arith, subst (λ k. AreResidues g.curve.prime (get_or rows k [])) (let w : i ≡ 0 + i = omega arith in w) (h i l).fits.1)
+  multiples_within rows e h i l = (omega arith, subst (λ k. AreResidues g.curve.prime (get_or rows k [])) (let w : i ≡ 0 + i = omega arith in w) (h i l).1)
 
   -- one row more
   pub more_rows : (row made : List ℕ) (rows new : List (List ℕ)) (i : ℕ) → length rows ≡ i → new ≡ rows ++ made ∷ []

@@ -5,7 +5,7 @@ use Rattle.polys.specs.declared.term.Term.{Term}
 use Rattle.polys.specs.Terms.{mul}
 use Rattle.polys.specs.Ideal.{number_combination}
 use Rattle.standard_monomials.specs.Standard.{polynomial_of}
-use Rattle.digit_space.specs.Model.{DigitData, AreFirstDigits, corner, kept_at, value_of}
+use Rattle.digit_space.specs.Model.{DigitData, AreFirstDigits, IsDigitsOf, corner, kept_at, value_of}
 use Rattle.digit_space.specs.declared.products.Product.{Product}
 use Rattle.digit_space.specs.declared.products.Product.TheVariants.{Corner, Border}
 
@@ -43,6 +43,10 @@ HasMultiples g q row f = (i : ℕ) → i < length g.basis → IsUnused g row i �
 -- the row's polynomial times the corner with this number
 abbrev pub corner_multiple : DigitData → List ℕ → ℕ → List Term
 corner_multiple g row i = mul g.curve.prime (value_of g row) (polynomial_of (corner g i))
+
+-- one row for each corner: the digits of q times it
+abbrev pub AreMultiples : DigitData → List Term → List (List ℕ) → Type 0
+AreMultiples g q rows = (i : ℕ) → i < length g.basis → IsDigitsOf g (mul g.curve.prime q (polynomial_of (corner g i))) (slice_index_or rows i [])
 
 -- the corners, each times its entry of the block
 abbrev pub corner_sum : DigitData → List ℕ → List Term

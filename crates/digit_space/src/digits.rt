@@ -6,7 +6,7 @@ ghost use Rattle.polys.specs.declared.curve.TheConstants.{LARGEST_DIMENSION, MAX
 ghost use Rattle.polys.specs.declared.term.Term.{Term};
 ghost use Rattle.polys.specs.Terms.{IsAffine, IsPoly, add, degree_of, mul};
 ghost use Rattle.row_space.specs.Echelon.{IsRow};
-ghost use Rattle.digit_space.specs.Adding.{HasMultiples, IsWithin, corner_multiple, corner_sum, rows_from};
+ghost use Rattle.digit_space.specs.Adding.{AreMultiples, HasMultiples, IsWithin, corner_multiple, corner_sum, rows_from};
 ghost use Rattle.standard_monomials.specs.Standard.{polynomial_of};
 
 use crate::dividing::{by_variable, position};
@@ -300,11 +300,25 @@ impl Digits {
         requires right { IsDigitRow self.now b.now }
         ensures { IfOk result (λ row. IsDigitsOf self.now (mul self.now.curve.prime (value_of self.now a.now) (value_of self.now b.now)) row) }
     {
-        let _depth = self.depth;
         let rows = self.multiples(b)?;
+        self.product_by(a, rows.as_slice())
+    }
+
+    /// The digits of the product of the row's polynomial and a polynomial q, by the digits of q times each corner.
+    ///
+    /// For each entry of `a` that is not 0 it takes a multiple of one of these rows as far as it is within the depth: at most
+    /// N T * N T / 2 steps.
+    pub fn product_by(&self, a: &[u32], multiples: &[List<u32>]) -> Result<List<u32>, NoMemory>
+        requires row { IsDigitRow self.now a.now }
+        requires count { length multiples.now ≡ length self.now.basis }
+        requires fit { (i : ℕ) → i < length self.now.basis → IsDigitRow self.now (slice_index_or multiples.now i []) }
+        ensures { IfOk result (λ row. (q : List Term) → IsPoly self.now.curve.prime self.now.curve.variables q → AreMultiples self.now q multiples.now
+            → IsDigitsOf self.now (mul self.now.curve.prime q (value_of self.now a.now)) row) }
+    {
+        let _depth = self.depth;
         let mut made = zero_row(self.allocator(), a.len())?;
         let in_order: Option<List<Product>> = None;
-        self.add_products(&in_order, 0, rows.as_slice(), a, made.as_mut_slice());
+        self.add_products(&in_order, 0, multiples, a, made.as_mut_slice());
         Ok(List::of_vec(made))
     }
 

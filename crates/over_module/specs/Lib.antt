@@ -1,1 +1,2 @@
 pub mod Algebras
+pub mod Done

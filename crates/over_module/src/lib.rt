@@ -1,6 +1,11 @@
-//! Modules of fractions between A and A over a power of d, by rows of digits; and A modulo d as an algebra.
+//! Modules of fractions between A and A over a power of d, by rows of digits; what the work on a point comes to; and A modulo d
+//! as an algebra.
 #![tactic(auto)]
 
 mod base;
+mod done;
+mod over;
 
 pub use base::base_algebra;
+pub use done::{Done, Verdict};
+pub use over::Over;
