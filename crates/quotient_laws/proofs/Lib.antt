@@ -1,0 +1,5 @@
+mod Constants
+mod Subquotients
+mod FractionQuotients
+mod Quotients
+mod Nilpotents
