@@ -3,3 +3,5 @@ mod Subquotients
 mod FractionQuotients
 mod Quotients
 mod Nilpotents
+mod Products
+mod ProductRows

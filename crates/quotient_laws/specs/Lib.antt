@@ -1,1 +1,3 @@
 pub mod Quotients
+pub mod ProductRows
+pub mod QuotientRows
