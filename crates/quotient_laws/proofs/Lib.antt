@@ -5,3 +5,4 @@ mod Quotients
 mod Nilpotents
 mod Products
 mod ProductRows
+mod QuotientRows

@@ -1,7 +1,7 @@
 -- The products of a ring of fractions and a point, by rows of digits.
-use Rattle.std.proofs.Common.{◌≡◌, ◌↔◌, ℕ, zero, suc, ◌+◌, ◌*◌, ◌<◌, List, [], ◌∷◌, length, All, refl, sym, ap, ◌∙◌, subst, arith}
+use Rattle.std.proofs.Common.{◌≡◌, ◌↔◌, ℕ, suc, ◌+◌, ◌*◌, ◌<◌, List, [], ◌∷◌, length, All, refl, sym, ap, ◌∙◌, subst, arith}
 use Rattle.std.specs.List.{Contains}
-use Rattle.std.proofs.lemmas.List.Elements.{All-nil, All-cons, All-head, All-tail, All-contains, All-weaker, All-contains_itself}
+use Rattle.std.proofs.lemmas.List.Elements.{All-cons, All-head, All-tail, All-contains, All-weaker, All-contains_itself}
 use Rattle.comm_ring.specs.Ring.{CommRing}
 use Rattle.comm_ring.specs.Rows.{rows}
 use Rattle.comm_ring.specs.Modules.{InSpan, IsSubmodule, combine, combination}
@@ -12,13 +12,13 @@ use Rattle.prime_field.proofs.Table.{positive_of_prime}
 use Rattle.monomials.specs.Mono.{Monomial}
 use Rattle.polys.specs.declared.term.Term.{Term}
 use Rattle.polys.specs.Terms.{IsPoly, add, sub, mul, multiple}
-use Rattle.polys.specs.Ideal.{InIdeal, number_combination}
+use Rattle.polys.specs.Ideal.{number_combination}
 use Rattle.polys.specs.Curve.{CurveData}
 use Rattle.polys.proofs.Affine.{poly_none, poly_add, poly_mul, poly_multiple, positive}
 use Rattle.polys.proofs.Sums.{mul_comm, mul-add, mul_none}
 use Rattle.ideal_laws.proofs.Multiples.{multiple-mul}
 use Rattle.row_space.specs.Echelon.{IsRow}
-use Rattle.row_space.specs.Subspace.{Subspace, IsIn}
+use Rattle.row_space.specs.Subspace.{Subspace}
 use Rattle.curve_model.specs.Fraction.{Fraction, IsFraction, AreEqual, InA, denominator_power, over, sum_of, product_of}
 use Rattle.curve_model.specs.Closure.{InModule}
 use Rattle.curve_model.specs.Laws.{IsFinite, ArePolys}
@@ -31,9 +31,9 @@ use Rattle.curve_laws.proofs.Base.{high}
 use Rattle.curve_laws.proofs.StatedLaws.{sum_poly, product_poly, power_poly}
 use Rattle.chain_laws.proofs.OneExponent.{eq_refl, eq_sym, eq_trans, eq_sum, eq_product, one_sum}
 use Rattle.digit_laws.proofs.Corners.{corners_law}
-use Rattle.digit_laws.specs.Digits.{AreCornersOf, value, AreDigits, HasDigitsIn, IsOfDigits}
+use Rattle.digit_laws.specs.Digits.{AreCornersOf, AreDigits, HasDigitsIn}
 use Rattle.digit_laws.specs.Laws.{DigitsAreCoordinates}
-use Rattle.digit_laws.proofs.DigitLaws.{digit_law, value_poly, numbers_poly}
+use Rattle.digit_laws.proofs.DigitLaws.{digit_law, numbers_poly}
 use Rattle.over_laws.specs.Over.{InRows}
 use Rattle.finite_algebra.proofs.Products.{row_fits}
 use Rattle.quotient_laws.specs.ProductRows.{HoldsCurve, SpanNumerators, IsProductRow, IsProductSpace, ProductsByRows}

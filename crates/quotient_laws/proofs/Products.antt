@@ -1,16 +1,15 @@
 -- Sums of products of a point and a ring of fractions, by numerators over one power of d.
-use Rattle.std.proofs.Common.{◌≡◌, ℕ, zero, suc, ◌+◌, ◌<◌, List, [], ◌∷◌, All, refl, sym, ap, ◌∙◌, subst, arith}
+use Rattle.std.proofs.Common.{◌≡◌, ℕ, zero, suc, ◌+◌, ◌<◌, List, [], ◌∷◌, All, refl, sym, ap, subst, arith}
 use Rattle.std.specs.List.{Contains}
 use Rattle.std.proofs.lemmas.List.Elements.{All-nil, All-cons, All-head, All-tail, All-contains, All-weaker, All-contains_itself}
-use Rattle.comm_ring.specs.Ring.{CommRing, pow}
+use Rattle.comm_ring.specs.Ring.{CommRing}
 use Rattle.comm_ring.specs.Ideals.{IsIdeal}
 use Rattle.comm_ring.proofs.Ideals as IdealLaws
-use Rattle.comm_ring.proofs.Derived as Derived
 use Rattle.polys.specs.declared.term.Term.{Term}
-use Rattle.polys.specs.Terms.{IsPoly, one, add, sub, mul, multiple}
+use Rattle.polys.specs.Terms.{IsPoly, one, add, mul, multiple}
 use Rattle.polys.specs.Ideal.{InIdeal, number_combination}
 use Rattle.polys.specs.Curve.{CurveData}
-use Rattle.polys.proofs.Affine.{poly_none, poly_add, poly_mul, poly_multiple, poly_constant, constant, mul_constant, sevens_of, positive}
+use Rattle.polys.proofs.Affine.{poly_none, poly_add, poly_multiple, poly_constant, constant, mul_constant, sevens_of, positive}
 use Rattle.polys.proofs.Units.{mul_one}
 use Rattle.ideal_laws.proofs.Ideals.{in_none, in_sub, in_generator, in_poly}
 use Rattle.ideal_laws.proofs.Members.{lift}
@@ -19,12 +18,11 @@ use Rattle.curve_model.specs.Closure.{InModule}
 use Rattle.curve_model.specs.Laws.{IsFinite, ArePolys}
 use Rattle.curve_model.specs.OneExponent.{InPower}
 use Rattle.curve_model.specs.Rings.{IsFractionRing, IsProduct, no_product, one_more}
-use Rattle.curve_laws.proofs.Base.{high, Ring, Poly, Q, Curve, d, member, equal_up, equal_down}
+use Rattle.curve_laws.proofs.Base.{high, Ring, member, equal_down}
 use Rattle.curve_laws.proofs.Members.{ideal_from}
 use Rattle.curve_laws.proofs.Chains.{flip}
 use Rattle.curve_laws.proofs.Facts.{same_member}
 use Rattle.curve_laws.proofs.StatedLaws.{frac, sum_poly, product_poly, sum-frac, product-frac, power_poly}
-use Rattle.curve_laws.proofs.SplitLaws.{Frac}
 use Rattle.curve_laws.proofs.DescentLaws.{Frs, module_up}
 use Rattle.chain_laws.proofs.OneExponent.{eq_refl, eq_sym, eq_trans, one_sum, one_equal_down, one_next, numbers_poly}
 use Rattle.chain_laws.proofs.ChainLaws.{one_poly}

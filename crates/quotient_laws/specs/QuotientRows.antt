@@ -5,17 +5,17 @@ use Rattle.comm_ring.specs.Modules.{InSpan, combination}
 use Rattle.monomials.specs.Mono.{Monomial}
 use Rattle.polys.specs.declared.term.Term.{Term}
 use Rattle.polys.specs.Terms.{IsPoly}
-use Rattle.polys.specs.Curve.{CurveData, data_of}
+use Rattle.polys.specs.Curve.{data_of}
 use Rattle.row_space.specs.Echelon.{IsRow}
 use Rattle.row_space.specs.Subspace.{Subspace, IsIn, DifferIn}
 use Rattle.curve_model.specs.Fraction.{Fraction, IsFraction, AreEqual, denominator_power, over, product_of}
 use Rattle.curve_model.specs.Laws.{ArePolys}
-use Rattle.curve_model.specs.Rings.{IsFractionRing, IsProduct}
+use Rattle.curve_model.specs.Rings.{IsProduct}
 use Rattle.digit_laws.specs.Digits.{AreCornersOf, AreDigits, IsOfDigits}
 use Rattle.finite_algebra.specs.Elements.{FiniteAlgebra, IsElement}
 use Rattle.over_laws.specs.Over.{OverData, InOver, InRows, HasRows}
 use Rattle.quotient_laws.specs.Quotients.{HasQuotientProducts}
-use Rattle.quotient_laws.specs.ProductRows.{HoldsCurve, SpanNumerators}
+use Rattle.quotient_laws.specs.ProductRows.{SpanNumerators}
 
 -- a row of digits at the depth k + 1 whose polynomial over d^k is in the module
 pub record IsMemberRow (o : OverData) (ms : List Monomial) (row : List ℕ) : Type 0 where

@@ -1,4 +1,6 @@
 // The laws of quotients at a point: each function has an empty body, and its contract is the law.
+ghost use Rattle.quotient_laws.specs.ProductRows.{ProductsByRows};
+ghost use Rattle.quotient_laws.specs.QuotientRows.{MemberRowsSpan, QuotientRowsAreProducts};
 ghost use Rattle.quotient_laws.specs.Quotients.{NilpotentsAreRadical, QuotientProductsAreAlgebras};
 
 /// The coordinates of the products of a basis of B modulo PB are an algebra, which is B modulo PB; a fraction of B is in the
@@ -6,4 +8,17 @@ ghost use Rattle.quotient_laws.specs.Quotients.{NilpotentsAreRadical, QuotientPr
 pub fn quotients_are_algebras()
     ensures algebra { QuotientProductsAreAlgebras }
     ensures radical { NilpotentsAreRadical }
+{}
+
+/// The sums of products of P and B over d^k are those fractions whose numerators have their digits at the depth k + 1 in the
+/// space that the products of generators of P and of B span.
+pub fn products_are_spaces()
+    ensures members { MemberRowsSpan }
+    ensures products { ProductsByRows }
+{}
+
+/// Rows that are a basis modulo that space, with the coordinates of their products, give a basis of B modulo PB with its
+/// products.
+pub fn rows_give_quotients()
+    ensures { QuotientRowsAreProducts }
 {}
