@@ -1,3 +1,4 @@
+-- for the laws here alone
 mod Constants
 mod Subquotients
 mod FractionQuotients
@@ -6,3 +7,5 @@ mod Nilpotents
 mod Products
 mod ProductRows
 mod QuotientRows
+mod Transport
+mod OverQuotients

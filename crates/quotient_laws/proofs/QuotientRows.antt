@@ -30,7 +30,7 @@ use Rattle.curve_laws.proofs.StatedLaws.{sum_poly, product_poly, power_poly}
 use Rattle.curve_laws.proofs.DeltaLaws.{multiple_poly}
 use Rattle.chain_laws.proofs.ChainLaws.{one_poly}
 use Rattle.chain_laws.proofs.OneExponent.{eq_refl, eq_trans, eq_sum, one_sum, one_next, one_equal_up}
-use Rattle.digit_laws.specs.Digits.{AreCornersOf, AreDigits}
+use Rattle.digit_laws.specs.Digits.{AreCornersOf, AreDigits, IsOfDigits}
 use Rattle.digit_laws.specs.Laws.{DigitsAreCoordinates, BlocksAreDepths}
 use Rattle.digit_laws.proofs.DigitLaws.{digit_law, numbers_poly}
 use Rattle.digit_laws.proofs.Blocks.{block_law}
@@ -43,22 +43,22 @@ use Rattle.quotient_laws.specs.QuotientRows.{IsMemberRow, AreMemberRows, MemberR
 use Rattle.quotient_laws.proofs.ProductRows.{none_digits}
 
 module _ (o : OverData) (h : HasRows o) (ms : List Monomial) (corners : AreCornersOf (data_of o.curve) ms) where
-  abbrev A : CurveData
+  abbrev pub A : CurveData
   A = data_of o.curve
 
-  abbrev p : ℕ
+  abbrev pub p : ℕ
   p = o.curve.prime
 
-  abbrev k : ℕ
+  abbrev pub k : ℕ
   k = o.power
 
-  abbrev W : ℕ
+  abbrev pub W : ℕ
   W = length ms * suc o.power
 
-  abbrev Good : List Term → Type 0
+  abbrev pub Good : List Term → Type 0
   Good f = IsPoly o.curve.prime o.curve.variables f
 
-  c : IsFinite (data_of o.curve)
+  pub c : IsFinite (data_of o.curve)
   c = fit_law o.curve h.prime h.fit
 
   pos : 0 < o.curve.prime
@@ -103,7 +103,7 @@ module _ (o : OverData) (h : HasRows o) (ms : List Monomial) (corners : AreCorne
     pub digits : AreDigits (data_of o.curve) ms (suc o.power) numerator row
     pub member : IsMemberRow o ms row
 
-  row_of : (f : Fraction) → InOver o f → HasMemberRow f
+  pub row_of : (f : Fraction) → InOver o f → HasMemberRow f
   row_of f x =
       let t = laws.exist x.numerator x.poly in
       let a : AreDigits A ms k x.numerator x.inside.0 = subst (λ z. AreDigits A z k x.numerator x.inside.0) (corners_law A c x.corners ms x.known corners) x.inside.1 in
@@ -186,7 +186,7 @@ module _ (o : OverData) (h : HasRows o) (ms : List Monomial) (corners : AreCorne
     good x = numbers_poly A c ms corners x us w.polys
 
     -- rows that differ by the space stand for fractions that differ by products
-    differ : (f : Fraction) → IsFraction A f → (b : List Term) → Good b → AreEqual A f (over b k) → (row : List ℕ) → AreDigits A ms (suc k) b row
+    pub differ : (f : Fraction) → IsFraction A f → (b : List Term) → Good b → AreEqual A f (over b k) → (row : List ℕ) → AreDigits A ms (suc k) b row
         → (x : List ℕ) → DifferIn space row (sum x) → DifferByProducts A P (InOver o) f (fraction_of A k us x)
     differ f hf b hb e row r x z =
         let g = numerator x in
@@ -252,10 +252,33 @@ module _ (o : OverData) (h : HasRows o) (ms : List Monomial) (corners : AreCorne
 pub member_law : MemberRowsSpan
 member_law o h ms corners vs list w = spans o h ms corners vs list w
 
+-- a space of rows of digits by its basis
+plain_space : (A : CurveData) (ms : List Monomial) (T : ℕ) (space : Subspace) → IsOfDigits A ms T space → space ≡ record { prime = A.prime; width = length ms * T; basis = space.basis }
+plain_space A ms T space d = ap (λ p. record { prime = p; width = space.width; basis = space.basis }) d.prime ∙ ap (λ n. record { prime = A.prime; width = n; basis = space.basis }) d.width
+
+module _ (o : OverData) (h : HasRows o) (ms : List Monomial) (corners : AreCornersOf (data_of o.curve) ms) (P : List (List Term)) (space : Subspace)
+    (d : IsOfDigits (data_of o.curve) ms (suc o.power) space)
+    (exact : (f : Fraction) → IsFraction (data_of o.curve) f → InRows (data_of o.curve) o.power (suc o.power) space f ↔ IsProduct (data_of o.curve) P (InOver o) f)
+    (a : FiniteAlgebra) (us : List (List Term)) (list : List (List ℕ)) (w : AreQuotientRows o ms space a us list) where
+  same_space : space ≡ record { prime = o.curve.prime; width = length ms * suc o.power; basis = space.basis }
+  same_space = plain_space (data_of o.curve) ms (suc o.power) space d
+
+  exact_there : (f : Fraction) → IsFraction (data_of o.curve) f
+      → InRows (data_of o.curve) o.power (suc o.power) (record { prime = o.curve.prime; width = length ms * suc o.power; basis = space.basis }) f ↔ IsProduct (data_of o.curve) P (InOver o) f
+  exact_there = subst (λ z. (f : Fraction) → IsFraction (data_of o.curve) f → InRows (data_of o.curve) o.power (suc o.power) z f ↔ IsProduct (data_of o.curve) P (InOver o) f) same_space exact
+
+  rows_there : AreQuotientRows o ms (record { prime = o.curve.prime; width = length ms * suc o.power; basis = space.basis }) a us list
+  rows_there = subst (λ z. AreQuotientRows o ms z a us list) same_space w
+
+  -- rows that differ by the space stand for fractions that differ by products
+  pub rows_differ : (f : Fraction) → IsFraction (data_of o.curve) f → (b : List Term) → IsPoly o.curve.prime o.curve.variables b → AreEqual (data_of o.curve) f (over b o.power)
+      → (row : List ℕ) → AreDigits (data_of o.curve) ms (suc o.power) b row → (x : List ℕ) → DifferIn space row (combination (rows o.curve.prime (length ms * suc o.power)) x list)
+      → DifferByProducts (data_of o.curve) P (InOver o) f (fraction_of (data_of o.curve) o.power us x)
+  rows_differ f hf b hb e row r x z = differ o h ms corners P space.basis exact_there a us list rows_there f hf b hb e row r x
+      (subst (λ s. DifferIn s row (combination (rows o.curve.prime (length ms * suc o.power)) x list)) same_space z)
+
+  pub quotient_products : HasQuotientProducts (data_of o.curve) P o.power (InOver o) a us
+  quotient_products = products o h ms corners P space.basis exact_there a us list rows_there
+
 pub quotient_rows_law : QuotientRowsAreProducts
-quotient_rows_law o h ms corners P space d exact a us list w =
-    products o h ms corners P space.basis (subst (λ z. (f : Fraction) → IsFraction (data_of o.curve) f → InRows (data_of o.curve) o.power (suc o.power) z f ↔ IsProduct (data_of o.curve) P (InOver o) f) same exact)
-    a us list (subst (λ z. AreQuotientRows o ms z a us list) same w)
-  where
-    same : space ≡ record { prime = o.curve.prime; width = length ms * suc o.power; basis = space.basis }
-    same = ap (λ p. record { prime = p; width = space.width; basis = space.basis }) d.prime ∙ ap (λ n. record { prime = o.curve.prime; width = n; basis = space.basis }) d.width
+quotient_rows_law o h ms corners P space d exact a us list w = quotient_products o h ms corners P space d exact a us list w

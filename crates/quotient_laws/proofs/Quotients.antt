@@ -57,10 +57,10 @@ module _ (A : CurveData) (c : IsFinite A) (P : List (List Term)) (p : ArePolys A
   negative : (g : Fraction) (hg : IsFraction A g) → F.neg (frac A c g hg) ≡ minus g hg
   negative g hg = ap (λ z. (z, g.exponent)) (same_member (F.neg (frac A c g hg)).0 (minus g hg).0 refl)
 
-  difference_poly : (f g : Fraction) → IsFraction A f → IsFraction A g → IsFraction A (difference_of A f g)
+  pub difference_poly : (f g : Fraction) → IsFraction A f → IsFraction A g → IsFraction A (difference_of A f g)
   difference_poly f g hf hg = sum_poly A c f (multiple_of A (A.prime - 1) g) hf (multiple_poly A c (A.prime - 1) g hg)
 
-  difference : (f g : Fraction) (hf : IsFraction A f) (hg : IsFraction A g) → F.◌⊕◌ (frac A c f hf) (F.neg (frac A c g hg)) ≡ frac A c (difference_of A f g) (difference_poly f g hf hg)
+  pub difference : (f g : Fraction) (hf : IsFraction A f) (hg : IsFraction A g) → F.◌⊕◌ (frac A c f hf) (F.neg (frac A c g hg)) ≡ frac A c (difference_of A f g) (difference_poly f g hf hg)
   unfolding difference_poly
   difference f g hf hg = ap (F.◌⊕◌ (frac A c f hf)) (negative g hg) ∙ sum-frac A c f (multiple_of A (A.prime - 1) g) hf (multiple_poly A c (A.prime - 1) g hg)
 

@@ -1,3 +1,4 @@
 pub mod Quotients
 pub mod ProductRows
 pub mod QuotientRows
+pub mod OverQuotients

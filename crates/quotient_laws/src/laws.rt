@@ -1,4 +1,5 @@
 // The laws of quotients at a point: each function has an empty body, and its contract is the law.
+ghost use Rattle.quotient_laws.specs.OverQuotients.{ProductSpacesHoldProducts, QuotientRowsAreAlgebras, RadicalsByRows};
 ghost use Rattle.quotient_laws.specs.ProductRows.{ProductsByRows};
 ghost use Rattle.quotient_laws.specs.QuotientRows.{MemberRowsSpan, QuotientRowsAreProducts};
 ghost use Rattle.quotient_laws.specs.Quotients.{NilpotentsAreRadical, QuotientProductsAreAlgebras};
@@ -15,10 +16,13 @@ pub fn quotients_are_algebras()
 pub fn products_are_spaces()
     ensures members { MemberRowsSpan }
     ensures products { ProductsByRows }
+    ensures modules { ProductSpacesHoldProducts }
 {}
 
-/// Rows that are a basis modulo that space, with the coordinates of their products, give a basis of B modulo PB with its
-/// products.
+/// Rows that are a basis modulo that space, with the coordinates of their products, are an algebra, which is B modulo PB; the
+/// rows that differ by the space from those of its nilpotent elements are the numerators of the radical.
 pub fn rows_give_quotients()
-    ensures { QuotientRowsAreProducts }
+    ensures products { QuotientRowsAreProducts }
+    ensures algebra { QuotientRowsAreAlgebras }
+    ensures radical { RadicalsByRows }
 {}
