@@ -1,2 +1,4 @@
 -- for this crate alone
 mod CornerRows
+mod DepthRows
+mod ZeroRows
