@@ -2,3 +2,4 @@
 mod CornerRows
 mod DepthRows
 mod ZeroRows
+mod Moved

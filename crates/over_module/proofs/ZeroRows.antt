@@ -65,6 +65,25 @@ begins (suc z) (x ∷ row) h e = ap₂ ◌∷◌ (e 0 (omega arith)) (begins z r
 pub begun : (z k : ℕ) (row : List ℕ) → BeginsWithZeros z row → k < z → get_or row k 0 ≡ 0
 begun z k row b h = ap (λ r. get_or r k 0) b ∙ in_zeros z k (drop z row) h
 
+zeros_small : (p z : ℕ) → 0 < p → All (λ e. e < p) (replicate z 0)
+zeros_small p z h i d l = let n : length {A = ℕ} (replicate z 0) ≡ z = length-replicate z 0 in
+    subst (λ x. x < p) (sym (get_or-replicate z i 0 d (omega arith))) h
+
+pub longer : (p z w wide : ℕ) (row : List ℕ) → 0 < p → wide ≡ z + w → IsRow p w row → IsRow p wide (behind_zeros z row)
+longer p z w wide row h e f = (
+  (let a : length {A = ℕ} (behind_zeros z row) ≡ length {A = ℕ} (replicate z 0) + length row = length-append (replicate z 0) row in
+  let b : length {A = ℕ} (replicate z 0) ≡ z = length-replicate z 0 in
+  let l : length row ≡ w = f.0 in omega arith),
+  All-append (λ x. x < p) (replicate z 0) row (zeros_small p z h) f.1,
+)
+
+pub shorter : (p z w wide : ℕ) (row : List ℕ) → wide ≡ z + w → IsRow p wide row → IsRow p w (drop z row)
+shorter p z w wide row e f = (
+  (let l : length row ≡ wide = f.0 in length-drop z row ∙ (let q : length row - z ≡ w = omega arith in q)),
+  λ i d l. subst (λ x. x < p) (sym (get_or-drop z row i d))
+      (f.1 (z + i) d (let n : length (drop z row) ≡ length row - z = length-drop z row in omega arith)),
+)
+
 -- ---- spaces that rows span
 
 pub spanned_basis : (s : Subspace) → IsReduced s → IsSpannedBy s.prime s.width s.basis s

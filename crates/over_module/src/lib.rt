@@ -5,6 +5,7 @@
 mod base;
 mod done;
 mod over;
+mod raising;
 
 pub use base::base_algebra;
 pub use done::{Done, Verdict};
