@@ -269,6 +269,9 @@ module _ (A : CurveData) (c : IsFinite A) (ms : List Monomial) (k : AreCornersOf
   x_poly : (v : ℕ) → v < A.variables → P A c (polynomial_of (variable v))
   x_poly v l = affine_poly A c ms k 0 (variable v) (affine_power A.variables v 1 l)
 
+  pub x_product : (v : ℕ) → v < A.variables → (f : List Term) → P A c f → P A c (mul A.prime (polynomial_of (variable v)) f)
+  x_product v l f hf = poly_mul A.prime A.variables (polynomial_of (variable v)) f (pos A c) (x_poly v l) hf
+
   -- it is enough to see polynomials
   pub ideal_of_polys : (T : ℕ) (S : Subspace) → IsOfDigits A ms T S
       → ((v : ℕ) → v < A.variables → (f : List Term) → P A c f → HasDigitsIn A ms T S f → HasDigitsIn A ms T S (mul A.prime (polynomial_of (variable v)) f))

@@ -3,3 +3,5 @@ mod CornerRows
 mod DepthRows
 mod ZeroRows
 mod Moved
+mod WholeRing
+mod Compared

@@ -2,8 +2,10 @@
 use Rattle.std.specs.Prelude.{◌≡◌, ◌↔◌, ℕ, ◌+◌, List, ◌++◌, drop, replicate}
 use Rattle.comm_ring.specs.Modules.{InSpan}
 use Rattle.comm_ring.specs.Rows.{rows}
+use Rattle.polys.specs.Curve.{data_of}
+use Rattle.curve_model.specs.Fraction.{Fraction, IsFraction}
 use Rattle.row_space.specs.Subspace.{Subspace, FitsIn, IsIn, IsReduced}
-use Rattle.over_laws.specs.Over.{OverData, HaveSameFractions}
+use Rattle.over_laws.specs.Over.{OverData, InOver, HaveSameFractions}
 
 -- so many zeros, and then the row
 abbrev pub behind_zeros : ℕ → List ℕ → List ℕ
@@ -33,3 +35,7 @@ pub record IsAtPower (o : OverData) (K : ℕ) (q : OverData) : Type 0 where
   pub dimension : q.dimension ≡ o.dimension
   pub power : q.power ≡ K
   pub same : HaveSameFractions o q
+
+-- the fractions of q are in o
+abbrev pub HoldsFractions : OverData → OverData → Type 0
+HoldsFractions o q = (f : Fraction) → IsFraction (data_of o.curve) f → InOver q f → InOver o f

@@ -3,8 +3,10 @@
 #![tactic(auto)]
 
 mod base;
+mod comparing;
 mod done;
 mod over;
+mod plain;
 mod raising;
 
 pub use base::base_algebra;
