@@ -125,3 +125,32 @@ module _ (o q : OverData) (h : HasRows o) (hq : HasRows q) (curve : q.curve ≡ 
       let prime : q.rows.prime ≡ o.rows.prime = q_digits.prime ∙ sym h.ideal.of_digits.prime in
       let width : q.rows.width ≡ o.rows.width = q_digits.width ∙ sym h.ideal.of_digits.width in
       subst (λ p. IsRow p o.rows.width (get_or q.rows.basis i d)) prime (subst (λ n. IsRow q.rows.prime n (get_or q.rows.basis i d)) width (hq.fits i d l))
+
+-- of two modules by copies over one power
+module _ (o q l r : OverData) (D E : ℕ) (ol : IsAtPower o D l) (qr : IsAtPower q E r) (curve : q.curve ≡ o.curve) where
+  at_q : (f : Fraction) → IsFraction (data_of o.curve) f → IsFraction (data_of q.curve) f
+  at_q f h = subst (λ C. IsFraction (data_of C) f) (sym curve) h
+
+  at_l : (f : Fraction) → IsFraction (data_of o.curve) f → IsFraction (data_of l.curve) f
+  at_l f h = subst (λ C. IsFraction (data_of C) f) (sym ol.curve) h
+
+  at_r : (f : Fraction) → IsFraction (data_of o.curve) f → IsFraction (data_of r.curve) f
+  at_r f h = subst (λ C. IsFraction (data_of C) f) (sym qr.curve) (at_q f h)
+
+  of_l : (f : Fraction) → IsFraction (data_of l.curve) f → IsFraction (data_of o.curve) f
+  of_l f h = subst (λ C. IsFraction (data_of C) f) ol.curve h
+
+  of_r : (f : Fraction) → IsFraction (data_of r.curve) f → IsFraction (data_of o.curve) f
+  of_r f h = subst (λ C. IsFraction (data_of C) f) (qr.curve ∙ curve) h
+
+  pub same_of_both : HoldsFractions l r → HoldsFractions r l → HaveSameFractions o q
+  same_of_both a b f hf = (
+    (λ i. (qr.same f (at_q f hf)).1 (b f (at_r f hf) ((ol.same f hf).0 i))),
+    λ i. (ol.same f hf).1 (a f (at_l f hf) ((qr.same f (at_q f hf)).0 i)),
+  )
+
+  pub left_of_same : HaveSameFractions o q → HoldsFractions l r
+  left_of_same e f hl i = let hf = of_l f hl in (ol.same f hf).0 ((e f hf).1 ((qr.same f (at_q f hf)).1 i))
+
+  pub right_of_same : HaveSameFractions o q → HoldsFractions r l
+  right_of_same e f hr i = let hf = of_r f hr in (qr.same f (at_q f hf)).0 ((e f hf).0 ((ol.same f hf).1 i))

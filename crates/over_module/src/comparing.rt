@@ -40,6 +40,7 @@ impl Over {
         requires poly { IsOver self.now.curve.prime self.now.curve.variables f.now }
         ensures { IfOk result (λ yes. IsTrue yes ↔ InOver self.now (over f.now.terms k)) }
     {
+        let _known = self.rows();
         let corners = digits.basis().len();
         let power = self.power().max(k);
         let raised = self.raised(power)?;
@@ -47,8 +48,9 @@ impl Over {
         let first = &row.as_slice()[..corners * k as usize];
         let zeros = corners * (power - k) as usize;
         let moved = behind(digits.allocator(), zeros, first)?;
-        let rows = raised.rows();
-        rows.contains(moved.as_slice())
+        let space = raised.rows();
+        let found = space.contains(moved.as_slice())?;
+        Ok(found)
     }
 
     // Whether the other module's fractions are in this one. Both are over one power.
@@ -59,7 +61,8 @@ impl Over {
     {
         let space = self.rows();
         let rows = other.rows();
-        has_all(space, rows.rows())
+        let found = has_all(space, rows.rows())?;
+        Ok(found)
     }
 
     /// Whether the two modules of one curve have the same fractions.
@@ -78,6 +81,7 @@ impl Over {
         if !left.holds(&right)? {
             return Ok(false);
         }
-        right.holds(&left)
+        let found = right.holds(&left)?;
+        Ok(found)
     }
 }
