@@ -266,7 +266,7 @@ module _ (A : CurveData) (c : IsFinite A) (ms : List Monomial) (k : AreCornersOf
     pub whole_digits : AreDigits A ms T (normal A.prime f) row
     whole_digits = record { fits = a.fits; close = subst (InPower A T) (sym (add_normal_left A.prime f (multiple A.prime (A.prime - 1) (value A ms T row)))) a.close }
 
-  x_poly : (v : ℕ) → v < A.variables → P A c (polynomial_of (variable v))
+  pub x_poly : (v : ℕ) → v < A.variables → P A c (polynomial_of (variable v))
   x_poly v l = affine_poly A c ms k 0 (variable v) (affine_power A.variables v 1 l)
 
   pub x_product : (v : ℕ) → v < A.variables → (f : List Term) → P A c f → P A c (mul A.prime (polynomial_of (variable v)) f)
@@ -284,10 +284,10 @@ module _ (A : CurveData) (c : IsFinite A) (ms : List Monomial) (k : AreCornersOf
   }
 
   -- a variable times a fraction
-  abbrev x_times : ℕ → Fraction → Fraction
+  abbrev pub x_times : ℕ → Fraction → Fraction
   x_times v f = over (mul A.prime (polynomial_of (variable v)) f.numerator) f.exponent
 
-  x_equal : (v : ℕ) → v < A.variables → (f g : Fraction) → IsFraction A f → IsFraction A g → AreEqual A f g → AreEqual A (x_times v f) (x_times v g)
+  pub x_equal : (v : ℕ) → v < A.variables → (f g : Fraction) → IsFraction A f → IsFraction A g → AreEqual A f g → AreEqual A (x_times v f) (x_times v g)
   x_equal v l f g hf hg e =
       let x : Fraction = over (polynomial_of (variable v)) 0 in
       let hx : IsFraction A x = x_poly v l in

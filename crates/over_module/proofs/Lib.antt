@@ -5,3 +5,5 @@ mod ZeroRows
 mod Moved
 mod WholeRing
 mod Compared
+mod SummedRows
+mod SummedModules

@@ -2,6 +2,7 @@
 //! as an algebra.
 #![tactic(auto)]
 
+mod adding;
 mod base;
 mod comparing;
 mod done;
