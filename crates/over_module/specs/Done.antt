@@ -1,6 +1,6 @@
 -- What is known of a point whose work is done.
 use Rattle.std.specs.Prelude.{◌≡◌, ◌≢◌, ◌↔◌, ℕ, ◌≤◌, List, [], ◌∷◌, ◌++◌, length, Option, None, Some}
-use Rattle.std.specs.declared.arc.Arc.{Arc}
+use Rattle.std.specs.declared.sync.Arc.{Arc}
 use Rattle.prime_field.specs.Primes.{IsPrime}
 use Rattle.polys.specs.Curve.{Fit, data_of}
 use Rattle.polys.specs.declared.curve.Curve.{Curve}

@@ -1,2 +1,3 @@
 pub mod Algebras
 pub mod Done
+pub mod Raising

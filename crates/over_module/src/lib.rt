@@ -2,9 +2,13 @@
 //! as an algebra.
 #![tactic(auto)]
 
+mod adding;
 mod base;
+mod comparing;
 mod done;
 mod over;
+mod plain;
+mod raising;
 
 pub use base::base_algebra;
 pub use done::{Done, Verdict};

@@ -54,6 +54,13 @@ impl Over {
         &self.curve
     }
 
+    /// The dimension N modulo I and d, the number of the corners.
+    pub fn corners(&self) -> u32
+        ensures { result ≡ self.now.dimension }
+    {
+        self.dimension
+    }
+
     /// The power k of d.
     pub fn power(&self) -> u32
         ensures { result ≡ self.now.power }

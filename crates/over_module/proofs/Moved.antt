@@ -1,0 +1,149 @@
+-- Modules over another power of d.
+use Rattle.std.proofs.Common.{◌≡◌, ◌↔◌, ℕ, ◌+◌, ◌-◌, ◌*◌, ◌<◌, ◌≤◌, List, ◌∷◌, map, drop, length, get_or, All, sym, ap, ap₂, ◌∙◌, subst, refl, arith, mul-add}
+use Rattle.std.proofs.lemmas.List.Elements.{All-map}
+use Rattle.polys.specs.declared.curve.Curve.{Curve}
+use Rattle.polys.proofs.Affine.{positive}
+use Rattle.curve_laws.proofs.Base.{high}
+use Rattle.monomials.specs.Mono.{Monomial}
+use Rattle.polys.specs.Curve.{CurveData, HasDimModulo, data_of}
+use Rattle.curve_model.specs.Fraction.{Fraction, IsFraction}
+use Rattle.curve_model.specs.Laws.{IsFinite}
+use Rattle.curve_laws.proofs.FitLaws.{fit_law}
+use Rattle.standard_monomials.proofs.Unique.{unique_law}
+use Rattle.row_space.specs.Echelon.{IsRow}
+use Rattle.row_space.specs.Subspace.{Subspace, IsReduced}
+use Rattle.digit_laws.specs.Digits.{AreCornersOf, IsIdealSpace, IsOfDigits}
+use Rattle.digit_laws.proofs.DigitLaws.{digit_law}
+use Rattle.over_laws.specs.Over.{OverData, InRows, HasRows, HaveSameFractions}
+use Rattle.over_module.specs.Raising.{behind_zeros, BeginsWithZeros, IsAtPower, IsRaised, IsSpannedBy}
+use Rattle.over_module.proofs.DepthRows.{raised_same, ideal_moved}
+use Rattle.over_module.proofs.ZeroRows.{fits_of, independent_of, longer, shorter, raised_space, spanned_basis, zeros_back}
+
+module _ (o : OverData) (h : HasRows o) where
+  pub finite : IsFinite (data_of o.curve)
+  finite = fit_law o.curve h.prime h.fit
+
+  pub over_zero : 0 < o.rows.prime
+  over_zero = subst (λ p. 0 < p) (sym h.rows_prime) (positive (data_of o.curve).prime (high (data_of o.curve) finite.curve))
+
+  -- a dimension is the number of the corners
+  pub corner_count : (n : ℕ) → HasDimModulo (data_of o.curve) n → n ≡ length h.corners
+  corner_count n d =
+      let A = data_of o.curve in
+      unique_law.one A.prime A.variables (A.denominator ∷ A.ideal) n (length h.corners) d (digit_law (data_of o.curve) finite h.corners h.known o.power).dimension
+
+  pub count : o.dimension ≡ length h.corners
+  count = corner_count o.dimension h.dimension
+
+  -- rows of some width over some power that are an ideal
+  pub has_rows : (D : ℕ) (S : Subspace) → IsReduced S → IsIdealSpace (data_of o.curve) h.corners D S → HasRows (record { curve = o.curve; dimension = o.dimension; power = D; rows = S })
+  has_rows D S r i = record {
+    prime = h.prime;
+    fit = h.fit;
+    dimension = h.dimension;
+    rows_prime = i.of_digits.prime;
+    rows_width = i.of_digits.width ∙ ap (λ n. n * D) (sym count);
+    fits = fits_of S r;
+    independent = independent_of S r;
+    corners = h.corners;
+    known = h.known;
+    ideal = i;
+  }
+
+  module _ (s D z : ℕ) (high : Subspace) (sum : D ≡ s + o.power) (zeros : z ≡ o.dimension * s) (r : IsRaised z o.rows high) where
+    at_high : z ≡ length h.corners * s
+    at_high = zeros ∙ ap (λ n. n * s) count
+
+    digits_high : IsOfDigits (data_of o.curve) h.corners D high
+    digits_high = record {
+      prime = r.prime ∙ h.ideal.of_digits.prime;
+      width = r.width ∙ ap₂ (λ a b. a + b) at_high h.ideal.of_digits.width ∙ sym (mul-add (length h.corners) s o.power) ∙ ap (λ n. length h.corners * n) (sym sum);
+    }
+
+    pub raised_fractions : (f : Fraction) → IsFraction (data_of o.curve) f → InRows (data_of o.curve) o.power o.power o.rows f ↔ InRows (data_of o.curve) D D high f
+    raised_fractions = raised_same (data_of o.curve) finite h.corners h.known s o.power D z o.rows high sum at_high h.ideal.of_digits digits_high r
+
+    pub raised_rows : IsReduced high → HasRows (record { curve = o.curve; dimension = o.dimension; power = D; rows = high })
+    raised_rows e = has_rows D high e (ideal_moved (data_of o.curve) finite h.corners h.known o.power D o.rows high h.ideal digits_high raised_fractions)
+
+  module _ (s K z : ℕ) (low : Subspace) (sum : o.power ≡ s + K) (zeros : z ≡ o.dimension * s) (digits_low : IsOfDigits (data_of o.curve) h.corners K low) (r : IsRaised z low o.rows) where
+    pub lowered_fractions : (f : Fraction) → IsFraction (data_of o.curve) f → InRows (data_of o.curve) o.power o.power o.rows f ↔ InRows (data_of o.curve) K K low f
+    lowered_fractions f hf =
+        let e = raised_same (data_of o.curve) finite h.corners h.known s K o.power z low o.rows sum (zeros ∙ ap (λ n. n * s) count) digits_low h.ideal.of_digits r f hf in
+        (e.1, e.0)
+
+    pub lowered_rows : IsReduced low → HasRows (record { curve = o.curve; dimension = o.dimension; power = K; rows = low })
+    lowered_rows e = has_rows K low e (ideal_moved (data_of o.curve) finite h.corners h.known o.power K o.rows low h.ideal digits_low lowered_fractions)
+
+-- ---- what the program makes
+
+pub all_moved : (p q v w : ℕ) (vs ws : List (List ℕ)) → q ≡ p → w ≡ v → ws ≡ vs → All (IsRow p v) vs → All (IsRow q w) ws
+all_moved p q v w vs ws ep ev e h = subst (All (IsRow q w)) (sym e) (subst (λ n. All (IsRow n w) vs) (sym ep) (subst (λ n. All (IsRow p n) vs) (sym ev) h))
+
+pub spanned_moved : (p q v w : ℕ) (vs ws : List (List ℕ)) (s : Subspace) → q ≡ p → w ≡ v → ws ≡ vs → IsSpannedBy q w ws s → IsSpannedBy p v vs s
+spanned_moved p q v w vs ws s ep ev e h = subst (λ n. IsSpannedBy n v vs s) ep (subst (λ n. IsSpannedBy q n vs s) ev (subst (λ us. IsSpannedBy q w us s) e h))
+
+module _ (o : OverData) (D : ℕ) (S : Subspace) (C : Curve) (n : ℕ) (ec : C ≡ o.curve) (en : n ≡ o.dimension) where
+  pub rows_moved : HasRows (record { curve = o.curve; dimension = o.dimension; power = D; rows = S }) → HasRows (record { curve = C; dimension = n; power = D; rows = S })
+  rows_moved h = subst (λ m. HasRows (record { curve = C; dimension = m; power = D; rows = S })) (sym en)
+      (subst (λ K. HasRows (record { curve = K; dimension = o.dimension; power = D; rows = S })) (sym ec) h)
+
+  pub power_moved : HaveSameFractions o (record { curve = o.curve; dimension = o.dimension; power = D; rows = S }) → IsAtPower o D (record { curve = C; dimension = n; power = D; rows = S })
+  power_moved h = record {
+    curve = ec;
+    dimension = en;
+    power = refl;
+    same = subst (λ m. HaveSameFractions o (record { curve = C; dimension = m; power = D; rows = S })) (sym en)
+        (subst (λ K. HaveSameFractions o (record { curve = K; dimension = o.dimension; power = D; rows = S })) (sym ec) h);
+  }
+
+module _ (o : OverData) (h : HasRows o) (e : IsReduced o.rows) where
+  -- ---- at a greater power
+  module _ (D : ℕ) (le : o.power ≤ D) where
+    abbrev pub Zeros : ℕ
+    Zeros = o.dimension * (D - o.power)
+
+    wide : o.dimension * D ≡ o.dimension * (D - o.power) + o.rows.width
+    wide = ap (λ n. o.dimension * n) (let q : D ≡ (D - o.power) + o.power = omega arith in q) ∙ mul-add o.dimension (D - o.power) o.power ∙ ap (λ n. o.dimension * (D - o.power) + n) (sym h.rows_width)
+
+    pub raised_fit : All (IsRow o.rows.prime (o.dimension * D)) (map (behind_zeros (o.dimension * (D - o.power))) o.rows.basis)
+    raised_fit = All-map (IsRow o.rows.prime (o.dimension * D)) (behind_zeros (o.dimension * (D - o.power))) o.rows.basis
+        (λ i d l. longer o.rows.prime (o.dimension * (D - o.power)) o.rows.width (o.dimension * D) (get_or o.rows.basis i d) (over_zero o h) wide (h.fits i d l))
+
+    module _ (S : Subspace) (s : IsSpannedBy o.rows.prime (o.dimension * D) (map (behind_zeros (o.dimension * (D - o.power))) o.rows.basis) S) where
+      raised_is : IsRaised (o.dimension * (D - o.power)) o.rows S
+      raised_is = raised_space o.rows.prime (o.dimension * (D - o.power)) o.rows.width (o.dimension * D) o.rows.basis o.rows S wide (spanned_basis o.rows e) s
+
+      pub made_rows : HasRows (record { curve = o.curve; dimension = o.dimension; power = D; rows = S })
+      made_rows = raised_rows o h (D - o.power) D (o.dimension * (D - o.power)) S (let q : D ≡ (D - o.power) + o.power = omega arith in q) refl raised_is s.reduced
+
+      pub made_same : HaveSameFractions o (record { curve = o.curve; dimension = o.dimension; power = D; rows = S })
+      made_same = raised_fractions o h (D - o.power) D (o.dimension * (D - o.power)) S (let q : D ≡ (D - o.power) + o.power = omega arith in q) refl raised_is
+
+  -- ---- at a smaller power
+  module _ (s : ℕ) (le : s ≤ o.power) where
+    narrow : o.rows.width ≡ o.dimension * s + o.dimension * (o.power - s)
+    narrow = h.rows_width ∙ ap (λ n. o.dimension * n) (let q : o.power ≡ s + (o.power - s) = omega arith in q) ∙ mul-add o.dimension s (o.power - s)
+
+    pub long_enough : All (λ row. o.dimension * s ≤ length row) o.rows.basis
+    long_enough i d l = let q = (h.fits i d l).0 in let w = narrow in omega arith
+
+    pub lowered_fit : All (IsRow o.rows.prime (o.dimension * (o.power - s))) (map (drop (o.dimension * s)) o.rows.basis)
+    lowered_fit = All-map (IsRow o.rows.prime (o.dimension * (o.power - s))) (drop (o.dimension * s)) o.rows.basis
+        (λ i d l. shorter o.rows.prime (o.dimension * s) (o.dimension * (o.power - s)) o.rows.width (get_or o.rows.basis i d) narrow (h.fits i d l))
+
+    module _ (begin : All (BeginsWithZeros (o.dimension * s)) o.rows.basis) (S : Subspace) (t : IsSpannedBy o.rows.prime (o.dimension * (o.power - s)) (map (drop (o.dimension * s)) o.rows.basis) S) where
+      again : IsSpannedBy o.rows.prime o.rows.width (map (behind_zeros (o.dimension * s)) (map (drop (o.dimension * s)) o.rows.basis)) o.rows
+      again = subst (λ us. IsSpannedBy o.rows.prime o.rows.width us o.rows) (zeros_back (o.dimension * s) o.rows.basis begin) (spanned_basis o.rows e)
+
+      lowered_is : IsRaised (o.dimension * s) S o.rows
+      lowered_is = raised_space o.rows.prime (o.dimension * s) (o.dimension * (o.power - s)) o.rows.width (map (drop (o.dimension * s)) o.rows.basis) S o.rows narrow t again
+
+      digits : IsOfDigits (data_of o.curve) h.corners (o.power - s) S
+      digits = record { prime = t.prime ∙ h.rows_prime; width = t.width ∙ ap (λ n. n * (o.power - s)) (count o h) }
+
+      pub less_rows : HasRows (record { curve = o.curve; dimension = o.dimension; power = o.power - s; rows = S })
+      less_rows = lowered_rows o h s (o.power - s) (o.dimension * s) S (let q : o.power ≡ s + (o.power - s) = omega arith in q) refl digits lowered_is t.reduced
+
+      pub less_same : HaveSameFractions o (record { curve = o.curve; dimension = o.dimension; power = o.power - s; rows = S })
+      less_same = lowered_fractions o h s (o.power - s) (o.dimension * s) S (let q : o.power ≡ s + (o.power - s) = omega arith in q) refl digits lowered_is

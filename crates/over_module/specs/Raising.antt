@@ -1,0 +1,41 @@
+-- Modules over another power of d.
+use Rattle.std.specs.Prelude.{◌≡◌, ◌↔◌, ℕ, ◌+◌, List, ◌++◌, drop, replicate}
+use Rattle.comm_ring.specs.Modules.{InSpan}
+use Rattle.comm_ring.specs.Rows.{rows}
+use Rattle.polys.specs.Curve.{data_of}
+use Rattle.curve_model.specs.Fraction.{Fraction, IsFraction}
+use Rattle.row_space.specs.Subspace.{Subspace, FitsIn, IsIn, IsReduced}
+use Rattle.over_laws.specs.Over.{OverData, InOver, HaveSameFractions}
+
+-- so many zeros, and then the row
+abbrev pub behind_zeros : ℕ → List ℕ → List ℕ
+behind_zeros zeros row = replicate zeros 0 ++ row
+
+-- the row begins with so many zeros
+abbrev pub BeginsWithZeros : ℕ → List ℕ → Type 0
+BeginsWithZeros zeros row = row ≡ behind_zeros zeros (drop zeros row)
+
+-- the space of the sums of multiples of the rows
+pub record IsSpannedBy (p n : ℕ) (vs : List (List ℕ)) (space : Subspace) : Type 0 where
+  pub prime : space.prime ≡ p
+  pub width : space.width ≡ n
+  pub members : (row : List ℕ) → IsIn space row ↔ InSpan (rows p n) vs row
+  pub reduced : IsReduced space
+
+-- the rows of the high space are those of the low one behind so many zeros
+pub record IsRaised (zeros : ℕ) (low high : Subspace) : Type 0 where
+  pub prime : high.prime ≡ low.prime
+  pub width : high.width ≡ zeros + low.width
+  pub up : (row : List ℕ) → FitsIn low row → IsIn low row → IsIn high (behind_zeros zeros row)
+  pub down : (row : List ℕ) → FitsIn high row → IsIn high row → (rest : List ℕ) × (row ≡ behind_zeros zeros rest) × IsIn low rest
+
+-- the same fractions over d^K
+pub record IsAtPower (o : OverData) (K : ℕ) (q : OverData) : Type 0 where
+  pub curve : q.curve ≡ o.curve
+  pub dimension : q.dimension ≡ o.dimension
+  pub power : q.power ≡ K
+  pub same : HaveSameFractions o q
+
+-- the fractions of q are in o
+abbrev pub HoldsFractions : OverData → OverData → Type 0
+HoldsFractions o q = (f : Fraction) → IsFraction (data_of o.curve) f → InOver q f → InOver o f
