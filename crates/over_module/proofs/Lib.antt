@@ -7,3 +7,4 @@ mod WholeRing
 mod Compared
 mod SummedRows
 mod SummedModules
+mod Fronts

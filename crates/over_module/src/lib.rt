@@ -8,6 +8,7 @@ mod comparing;
 mod done;
 mod over;
 mod plain;
+mod quotient;
 mod raising;
 
 pub use base::base_algebra;

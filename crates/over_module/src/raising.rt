@@ -58,7 +58,7 @@ fn all_without(
 }
 
 // The space that the rows span.
-fn spanned(
+pub(crate) fn spanned(
     alloc: Global,
     prime: Prime,
     width: usize,
