@@ -1,3 +1,6 @@
+-- for the crates above: the digits of a fit curve, and rows that are filled with zeros
+pub mod Facts
+pub mod Values
 -- for this crate alone
 mod CornerRows
 mod DepthRows
@@ -8,3 +11,5 @@ mod Compared
 mod SummedRows
 mod SummedModules
 mod Fronts
+mod Times
+mod ProductLists

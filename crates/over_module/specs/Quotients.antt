@@ -1,18 +1,19 @@
 -- The numerators of a ring of fractions over d^k modulo d^(k+1), those of its products with a point, and what is left of the
 -- former modulo the latter.
-use Rattle.std.specs.Prelude.{◌≡◌, ◌↔◌, ℕ, suc, ◌+◌, ◌-◌, ◌*◌, ◌<◌, List, [], ◌++◌, length, take, drop, replicate, slice_index_or, All}
+use Rattle.std.specs.Prelude.{◌≡◌, ◌↔◌, ℕ, suc, ◌+◌, ◌-◌, ◌*◌, ◌<◌, List, [], ◌++◌, length, take, drop, replicate, slice_index_or, All, Contains}
 use Rattle.comm_ring.specs.Rows.{rows}
 use Rattle.comm_ring.specs.Modules.{combination}
 use Rattle.monomials.specs.Mono.{Monomial}
 use Rattle.polys.specs.declared.term.Term.{Term}
 use Rattle.polys.specs.Terms.{mul}
-use Rattle.polys.specs.Curve.{data_of}
+use Rattle.polys.specs.Curve.{CurveData, data_of}
 use Rattle.row_space.specs.Echelon.{IsRow}
 use Rattle.row_space.specs.Subspace.{Subspace, FitsIn, IsIn, DifferIn, IsZeroAtPivots, IsReduced}
 use Rattle.finite_algebra.specs.Elements.{unit_row}
 use Rattle.digit_laws.specs.Digits.{AreDigits}
 use Rattle.digit_space.specs.Model.{DigitData, value_of, width}
 use Rattle.over_laws.specs.Over.{OverData}
+use Rattle.quotient_laws.specs.ProductRows.{IsProductRow}
 
 -- the basis rows of m entries, each with zeros behind it up to w entries, and then the unit rows for so many places from m on
 pub record AreFirstGenerators (m w many : ℕ) (basis made : List (List ℕ)) : Type 0 where
@@ -34,3 +35,13 @@ pub record HasFronts (w m : ℕ) (low space : Subspace) : Type 0 where
 -- the digits at the depth k + 1 of the module's numerators over d^k, for n corners
 abbrev pub HoldsNumerators : OverData → ℕ → Subspace → Type 0
 HoldsNumerators o n space = HasFronts (n * suc o.power) (n * o.power) o.rows space
+
+-- the rows have the digits at the depth T of the products of q and the polynomials of the other rows
+pub record AreTimes (g : DigitData) (T : ℕ) (q : List Term) (list made : List (List ℕ)) : Type 0 where
+  pub count : length made ≡ length list
+  pub each : (i : ℕ) → i < length list → AreDigits (data_of g.curve) g.basis T (mul g.curve.prime q (value_of g (slice_index_or list i []))) (slice_index_or made i [])
+
+-- each row has the digits of a product of a member of P and one of vs, and each such product has a row
+pub record AreAllProducts (A : CurveData) (ms : List Monomial) (T : ℕ) (P vs : List (List Term)) (list : List (List ℕ)) : Type 0 where
+  pub rows : All (IsProductRow A ms T P vs) list
+  pub each : (q v : List Term) → Contains P q → Contains vs v → (row : List ℕ) × AreDigits A ms T (mul A.prime q v) row × Contains list row

@@ -1,15 +1,29 @@
 // A ring of fractions modulo its products with a point.
-ghost use Rattle.std.specs.Prelude.{◌≡◌, ◌≤◌, ◌<◌, ◌-◌, ◌*◌, ◌++◌, suc, map, length, replicate, All, IfOk, OnOk};
+ghost use Rattle.std.specs.Prelude.{◌≡◌, ◌≤◌, ◌<◌, ◌-◌, ◌*◌, ◌++◌, ℕ, suc, List, [], map, length, replicate, slice_index_or, All, IfOk, OnOk};
+ghost use Rattle.polys.specs.Curve.{IsOver, data_of};
+ghost use Rattle.digit_space.specs.Adding.{AreMultiples};
+ghost use Rattle.digit_space.specs.Model.{IsDigitRow, IsDigitSpace, value_of};
 ghost use Rattle.row_space.specs.Subspace.{FitsIn};
 ghost use Rattle.finite_algebra.specs.Elements.{unit_row};
-ghost use Rattle.over_module.specs.Quotients.{AreGenerators, HasFronts, HoldsNumerators};
+ghost use Rattle.quotient_laws.specs.ProductRows.{IsProductSpace};
+ghost use Rattle.over_module.specs.Quotients.{AreAllProducts, AreGenerators, AreTimes, HasFronts, HoldsNumerators};
 
 use super::over::Over;
 use super::raising::spanned;
 use digit_space::Digits;
 use lists::{List, NoMemory};
+use polys::Poly;
 use row_space::Space;
 use std::alloc::Global;
+
+// How many entries so many blocks have.
+fn entries(digits: &Digits, blocks: u32) -> usize
+    requires { blocks ≤ digits.now.depth }
+    ensures value { result ≡ length digits.now.basis * blocks }
+    ensures known { IsDigitSpace digits.now }
+{
+    digits.basis().len() * blocks as usize
+}
 
 // The row with zeros behind it, `width` entries in all.
 fn filled(alloc: Global, width: usize, row: &[u32]) -> Result<List<u32>, NoMemory>
@@ -73,5 +87,83 @@ fn with_fronts(alloc: Global, first: usize, width: usize, low: &Space) -> Result
     let basis = low.rows();
     let rows = generators(alloc, first, width, basis)?;
     let space = spanned(alloc, low.prime(), width, rows.as_slice())?;
+    Ok(space)
+}
+
+// The digits at the depth `depth` of the products of the polynomial, whose products with the corners are given, and those of the
+// rows.
+fn product_rows(
+    digits: &Digits,
+    depth: u32,
+    f: &Poly,
+    multiples: &[List<u32>],
+    rows: &[List<u32>],
+) -> Result<List<List<u32>>, NoMemory>
+    requires depth { depth ≤ digits.now.depth }
+    requires poly { IsOver digits.now.curve.prime digits.now.curve.variables f.now }
+    requires count { length multiples.now ≡ length digits.now.basis }
+    requires multiples { AreMultiples digits.now f.now.terms multiples.now }
+    requires rows { All (IsDigitRow digits.now) rows.now }
+    ensures { IfOk result (AreTimes digits.now depth f.now.terms rows.now) }
+{
+    let width = entries(digits, depth);
+    let mut made = List::new(digits.allocator());
+    for row in rows {
+        let whole = digits.product_by(row.as_slice(), multiples)?;
+        let front = List::from_slice(digits.allocator(), &whole.as_slice()[..width])?;
+        made.push(front)?;
+    }
+    Ok(made)
+}
+
+// The digits of the polynomial times each corner.
+fn multiples_of(digits: &Digits, f: &Poly) -> Result<List<List<u32>>, NoMemory>
+    requires { IsOver digits.now.curve.prime digits.now.curve.variables f.now }
+    ensures count { IfOk result (λ rows. length rows ≡ length digits.now.basis) }
+    ensures multiples { IfOk result (AreMultiples digits.now f.now.terms) }
+{
+    let _basis = digits.basis();
+    let row = digits.digits_of(f)?;
+    let rows = digits.multiples(row.as_slice())?;
+    Ok(rows)
+}
+
+// The digits at the depth `depth` of the products of each of the polynomials and each of the rows'.
+fn all_products(
+    digits: &Digits,
+    depth: u32,
+    factors: &[Poly],
+    rows: &[List<u32>],
+) -> Result<List<List<u32>>, NoMemory>
+    requires depth { depth ≤ digits.now.depth }
+    requires factors { All (IsOver digits.now.curve.prime digits.now.curve.variables) factors.now }
+    requires rows { All (IsDigitRow digits.now) rows.now }
+    ensures { IfOk result (AreAllProducts (data_of digits.now.curve) digits.now.basis depth (map (λ f. f.terms) factors.now) (map (value_of digits.now) rows.now)) }
+{
+    let mut made = List::new(digits.allocator());
+    for f in factors {
+        let multiples = multiples_of(digits, f)?;
+        let mut products = product_rows(digits, depth, f, multiples.as_slice(), rows)?;
+        made.append(&mut products)?;
+    }
+    Ok(made)
+}
+
+// The space that these products span.
+fn product_space(
+    digits: &Digits,
+    depth: u32,
+    factors: &[Poly],
+    rows: &[List<u32>],
+) -> Result<Space, NoMemory>
+    requires depth { depth ≤ digits.now.depth }
+    requires factors { All (IsOver digits.now.curve.prime digits.now.curve.variables) factors.now }
+    requires rows { All (IsDigitRow digits.now) rows.now }
+    ensures { IfOk result (IsProductSpace (data_of digits.now.curve) digits.now.basis depth (map (λ f. f.terms) factors.now) (map (value_of digits.now) rows.now)) }
+{
+    let width = entries(digits, depth);
+    let products = all_products(digits, depth, factors, rows)?;
+    let prime = digits.curve().prime;
+    let space = spanned(digits.allocator(), prime, width, products.as_slice())?;
     Ok(space)
 }
