@@ -13,3 +13,4 @@ mod SummedModules
 mod Fronts
 mod Times
 mod ProductLists
+mod Numerators

@@ -60,7 +60,7 @@ module _ (A : CurveData) (c : IsFinite A) (ms : List Monomial) (k : AreCornersOf
   abbrev N : ℕ
   N = length ms
 
-  values_poly : (T : ℕ) (rs : List (List ℕ)) → ArePolys A (map (value A ms T) rs)
+  pub values_poly : (T : ℕ) (rs : List (List ℕ)) → ArePolys A (map (value A ms T) rs)
   values_poly T [] = All-nil P
   values_poly T (r ∷ rs) = All-cons P (value A ms T r) (map (value A ms T) rs) (value_poly A c ms k T r) (values_poly T rs)
 

@@ -5,14 +5,20 @@ ghost use Rattle.digit_space.specs.Adding.{AreMultiples};
 ghost use Rattle.digit_space.specs.Model.{IsDigitRow, IsDigitSpace, value_of};
 ghost use Rattle.row_space.specs.Subspace.{FitsIn};
 ghost use Rattle.finite_algebra.specs.Elements.{unit_row};
+ghost use Rattle.curve_model.specs.Point.{IsPointOf, basis_of};
+ghost use Rattle.curve_model.specs.Rings.{IsFractionRing};
+ghost use Rattle.over_laws.specs.Over.{InOver};
+ghost use Rattle.quotient_laws.specs.OverQuotients.{HoldsProducts};
 ghost use Rattle.quotient_laws.specs.ProductRows.{IsProductSpace};
 ghost use Rattle.over_module.specs.Quotients.{AreAllProducts, AreGenerators, AreTimes, HasFronts, HoldsNumerators};
 
 use super::over::Over;
 use super::raising::spanned;
+use curve_model::Point;
 use digit_space::Digits;
 use lists::{List, NoMemory};
 use polys::Poly;
+use quotient_laws::laws::products_are_spaces;
 use row_space::Space;
 use std::alloc::Global;
 
@@ -166,4 +172,46 @@ fn product_space(
     let prime = digits.curve().prime;
     let space = spanned(digits.allocator(), prime, width, products.as_slice())?;
     Ok(space)
+}
+
+impl Over {
+    // The digits at the depth k + 1 of the numerators over d^k.
+    fn numerators(&self, digits: &Digits) -> Result<Space, NoMemory>
+        requires curve { digits.now.curve ≡ self.now.curve }
+        requires depth { self.now.power < digits.now.depth }
+        ensures { IfOk result (HoldsNumerators self.now (length digits.now.basis)) }
+    {
+        let rows = self.rows();
+        let power = self.power();
+        let first = entries(digits, power);
+        let width = entries(digits, power + 1);
+        let space = with_fronts(digits.allocator(), first, width, rows)?;
+        Ok(space)
+    }
+
+    /// The digits at the depth k + 1 of the numerators over d^k of the sums of products of a member of the point and a fraction of
+    /// the module, where k is its power.
+    ///
+    /// For each member of the point it takes N products by a variable and a product for each row of the module and each corner,
+    /// and the insertion of as many rows of N (k + 1) entries.
+    ///
+    /// # Errors
+    /// Want of memory.
+    pub fn products(&self, digits: &Digits, point: &Point) -> Result<Space, NoMemory>
+        requires curve { digits.now.curve ≡ self.now.curve }
+        requires ring { IsFractionRing (data_of self.now.curve) (InOver self.now) }
+        requires point { IsPointOf (data_of self.now.curve) point.now }
+        requires depth { self.now.power < digits.now.depth }
+        ensures { IfOk result (HoldsProducts self.now digits.now.basis (basis_of point.now)) }
+    {
+        products_are_spaces();
+        let _known = self.rows();
+        let alloc = digits.allocator();
+        let numerators = self.numerators(digits)?;
+        let width = entries(digits, digits.depth());
+        let rows = all_filled(alloc, width, numerators.rows())?;
+        let factors = point.basis.as_slice();
+        let space = product_space(digits, self.power() + 1, factors, rows.as_slice())?;
+        Ok(space)
+    }
 }

@@ -1,0 +1,124 @@
+-- The numerators of a module over d^k modulo d^(k+1), as rows of digits, and their products with a point.
+use Rattle.std.proofs.Common.{◌≡◌, ◌↔◌, ℕ, suc, ◌+◌, ◌-◌, ◌*◌, ◌<◌, ◌≤◌, List, [], ◌∷◌, ◌++◌, map, length, take, replicate, get_or, All, refl, sym, ap, ◌∙◌, subst, arith, mul-add}
+use Rattle.std.proofs.lemmas.List.{get_or-map, length-map}
+use Rattle.std.proofs.lemmas.List.Elements.{All-from_get_or, All-weaker}
+use Rattle.comm_ring.specs.Rows.{rows as rows_of}
+use Rattle.comm_ring.specs.Modules.{InSpan}
+use Rattle.comm_ring.proofs.Modules as Modules
+use Rattle.comm_ring.proofs.Residues.{residues}
+use Rattle.comm_ring.proofs.Rows.{row_module}
+use Rattle.prime_field.proofs.Table.{positive_of_prime}
+use Rattle.monomials.specs.Mono.{Monomial}
+use Rattle.polys.specs.declared.term.Term.{Term}
+use Rattle.polys.specs.declared.curve.Curve.{Curve}
+use Rattle.polys.specs.Curve.{CurveData, data_of}
+use Rattle.row_space.specs.Echelon.{IsRow}
+use Rattle.row_space.specs.Subspace.{Subspace, FitsIn, IsIn}
+use Rattle.digit_laws.specs.Digits.{AreCornersOf, AreDigits, value}
+use Rattle.digit_laws.proofs.Corners.{corners_law}
+use Rattle.digit_laws.proofs.DigitLaws.{digit_law, row_digits}
+use Rattle.digit_space.specs.Model.{DigitData, IsDigitSpace, IsDigitRow, value_of, width}
+use Rattle.curve_model.specs.declared.point.Point.{Point}
+use Rattle.curve_model.specs.Point.{IsPointOf, basis_of}
+use Rattle.curve_model.specs.Rings.{IsFractionRing}
+use Rattle.over_laws.specs.Over.{OverData, InOver, HasRows}
+use Rattle.quotient_laws.specs.OverQuotients.{HoldsProducts}
+use Rattle.quotient_laws.specs.ProductRows.{HoldsCurve}
+use Rattle.quotient_laws.specs.QuotientRows.{IsMemberRow, AreMemberRows}
+use Rattle.over_module.specs.Quotients.{HasFronts, HoldsNumerators}
+use Rattle.over_module.proofs.Facts.{finite, filled_row, filled_value}
+use Rattle.over_module.proofs.Values.{values_poly}
+
+module _ (g : DigitData) (s : IsDigitSpace g) (n k : ℕ) (R : Subspace) where
+  -- a module over the curve of the digits
+  abbrev pub here : OverData
+  here = record { curve = g.curve; dimension = n; power = k; rows = R }
+
+  abbrev N : ℕ
+  N = length g.basis
+
+  module _ (h : HasRows here) where
+    pub rows_width : R.width ≡ N * k
+    rows_width = h.ideal.of_digits.width ∙ ap (λ ms. length ms * k) (corners_law (data_of g.curve) (finite g s) h.corners g.basis h.known s.corners)
+
+    module _ (U : Subspace) (u : HoldsNumerators here N U) (deep : suc k ≤ g.depth) where
+      -- the rows as rows of the digits' depth
+      abbrev pub filled_out : List ℕ → List ℕ
+      filled_out row = row ++ replicate (N * g.depth - length row) 0
+
+      prime_is : U.prime ≡ g.curve.prime
+      prime_is = u.prime ∙ h.rows_prime
+
+      abbrev p : ℕ
+      p = g.curve.prime
+
+      fits : All (FitsIn U) U.basis
+      fits = u.reduced.1.rows
+
+      basis_fits : (i : ℕ) → i < length U.basis → IsRow p (N * suc k) (get_or U.basis i [])
+      basis_fits i l = subst (λ q. IsRow q (N * suc k) (get_or U.basis i [])) prime_is (subst (λ w. IsRow U.prime w (get_or U.basis i [])) u.width (fits i [] l))
+
+      zeros_are : (row : List ℕ) → length row ≡ N * suc k → N * g.depth - length row ≡ N * (g.depth - suc k)
+      zeros_are row e =
+          let a : N * g.depth ≡ N * suc k + N * (g.depth - suc k) = ap (λ z. N * z) (let q : g.depth ≡ suc k + (g.depth - suc k) = omega arith in q) ∙ mul-add N (suc k) (g.depth - suc k) in
+          omega arith
+
+      filled_at : (list : List (List ℕ)) → list ≡ map filled_out U.basis → (i : ℕ) → i < length U.basis → get_or list i [] ≡ filled_out (get_or U.basis i [])
+      filled_at list e i l = ap (λ z. get_or z i []) e ∙ get_or-map filled_out U.basis i [] [] l
+
+      long : (list : List (List ℕ)) → list ≡ map filled_out U.basis → length list ≡ length U.basis
+      long list e = ap length e ∙ length-map U.basis filled_out
+
+      value_at : (list : List (List ℕ)) → list ≡ map filled_out U.basis → (i : ℕ) → i < length U.basis → value_of g (get_or list i []) ≡ value (data_of g.curve) g.basis (suc k) (get_or U.basis i [])
+      value_at list e i l = ap (value_of g) (filled_at list e i l)
+          ∙ filled_value g s (suc k) deep (get_or U.basis i []) (basis_fits i l) (N * g.depth - length (get_or U.basis i [])) (zeros_are (get_or U.basis i []) (basis_fits i l).0)
+
+      pub digit_rows : (list : List (List ℕ)) → list ≡ map filled_out U.basis → All (IsDigitRow g) list
+      digit_rows list e = All-from_get_or (IsDigitRow g) list [] (λ i l.
+          let n = long list e in
+          let m : i < length U.basis = omega arith in
+          subst (IsDigitRow g) (sym (filled_at list e i m)) (filled_row g s (suc k) deep (get_or U.basis i []) (basis_fits i m) (N * g.depth - length (get_or U.basis i [])) (zeros_are (get_or U.basis i []) (basis_fits i m).0)))
+
+      pub member_rows : (list : List (List ℕ)) → list ≡ map filled_out U.basis → AreMemberRows here g.basis (map (value_of g) list) U.basis
+      member_rows list e = record {
+        polys = values_poly (data_of g.curve) (finite g s) g.basis s.corners g.depth list;
+        count = sym (length-map list (value_of g) ∙ long list e);
+        digits = λ i l.
+            let n = long list e in
+            let n' = length-map list (value_of g) in
+            let m : i < length U.basis = omega arith in
+            let q : i < length list = omega arith in
+            subst (λ f. AreDigits (data_of g.curve) g.basis (suc k) f (get_or U.basis i [])) (sym (get_or-map (value_of g) list i [] [] q ∙ value_at list e i m))
+            (row_digits (data_of g.curve) (finite g s) g.basis s.corners (suc k) (get_or U.basis i []) (basis_fits i m));
+        members = All-from_get_or (IsMemberRow here g.basis) U.basis [] (λ i l. record { fits = basis_fits i l;
+          inside = (u.members (get_or U.basis i []) (subst (λ q. IsRow q (N * suc k) (get_or U.basis i [])) (sym h.rows_prime) (basis_fits i l))).0 (self_in i l) });
+        spans = λ row m. subst (λ q. InSpan (rows_of q (N * suc k)) U.basis row) prime_is (subst (λ w. InSpan (rows_of U.prime w) U.basis row) u.width
+            ((u.members row (subst (λ q. IsRow q (N * suc k) row) (sym h.rows_prime) m.fits)).1 m.inside));
+      }
+        where
+          positive : 0 < U.prime
+          positive = subst (λ q. 0 < q) (sym prime_is) (positive_of_prime g.curve.prime s.prime)
+
+          self_in : (i : ℕ) → i < length U.basis → IsIn U (get_or U.basis i [])
+          self_in i l = Modules.span_self (residues U.prime positive) (row_module U.prime positive U.width) U.basis i [] l
+
+-- a point's ideal holds I and d
+pub point_holds : (A : CurveData) (point : Point) → IsPointOf A point → HoldsCurve A (basis_of point)
+point_holds A point w = record { polys = w.is_point.reduced.polys; ideal = w.is_point.holds_ideal; denominator = w.is_point.holds_denominator }
+
+module _ (g : DigitData) (s : IsDigitSpace g) (o : OverData) (e : g.curve ≡ o.curve) where
+  abbrev at : Curve → OverData
+  at C = record { curve = C; dimension = o.dimension; power = o.power; rows = o.rows }
+
+  -- what is known of the module, over the curve of the digits
+  pub rows_here : HasRows o → HasRows (here g s o.dimension o.power o.rows)
+  rows_here h = subst (λ C. HasRows (at C)) (sym e) h
+
+  pub ring_here : IsFractionRing (data_of o.curve) (InOver o) → IsFractionRing (data_of g.curve) (InOver (here g s o.dimension o.power o.rows))
+  ring_here r = subst (λ C. IsFractionRing (data_of C) (InOver (at C))) (sym e) r
+
+  pub point_here : (point : Point) → IsPointOf (data_of o.curve) point → IsPointOf (data_of g.curve) point
+  point_here point w = subst (λ C. IsPointOf (data_of C) point) (sym e) w
+
+  pub products_there : (P : List (List Term)) (space : Subspace) → HoldsProducts (here g s o.dimension o.power o.rows) g.basis P space → HoldsProducts o g.basis P space
+  products_there P space h = subst (λ C. HoldsProducts (at C) g.basis P space) e h
