@@ -7,3 +7,5 @@ mod WholeRing
 mod Compared
 mod SummedRows
 mod SummedModules
+mod Ranks
+mod LeastPower

@@ -11,19 +11,19 @@ use Rattle.comm_ring.proofs.Rows.{row-entry}
 use Rattle.row_space.specs.Sums.{entry, weighted, IsWeighted, Covers}
 use Rattle.row_space.specs.Echelon.{IsRow, IsEchelon}
 use Rattle.row_space.specs.Subspace.{Subspace, FitsIn, IsIn, IsReduced, Joins}
-use Rattle.row_space.proofs.Weights.{weighted-one, through, covers_trans}
+use Rattle.row_space.proofs.Weights.{member_in, weighted-one, through, covers_trans}
 use Rattle.row_space.proofs.Members.{combination-entry, weighted_of, span_of}
 use Rattle.over_module.specs.Raising.{behind_zeros, BeginsWithZeros, IsSpannedBy, IsRaised}
 use Rattle.over_module.proofs.DepthRows.{rest_fits}
 
 -- ---- entries behind zeros
 
-in_zeros : (z k : ℕ) (row : List ℕ) → k < z → get_or (behind_zeros z row) k 0 ≡ 0
+pub in_zeros : (z k : ℕ) (row : List ℕ) → k < z → get_or (behind_zeros z row) k 0 ≡ 0
 in_zeros z k row h =
     let l : length {A = ℕ} (replicate z 0) ≡ z = length-replicate z 0 in
     get_or_append_left (replicate z 0) row 0 k (let q : k < length {A = ℕ} (replicate z 0) = omega arith in q) ∙ get_or-replicate z k 0 0 h
 
-behind : (z k : ℕ) (row : List ℕ) → z ≤ k → get_or (behind_zeros z row) k 0 ≡ get_or row (k - z) 0
+pub behind : (z k : ℕ) (row : List ℕ) → z ≤ k → get_or (behind_zeros z row) k 0 ≡ get_or row (k - z) 0
 behind z k row h = get_or-append_right (replicate z 0) row z k 0 (length-replicate z 0) h
 
 zero_sum : (z k : ℕ) (cs : List ℕ) (us : List (List ℕ)) → k < z → weighted cs (map (behind_zeros z) us) k ≡ 0
@@ -37,7 +37,7 @@ sum_behind z k (c ∷ cs) [] h = refl
 sum_behind z k (c ∷ cs) (u ∷ us) h = ap₂ ◌+◌ (ap (λ x. c * x) (behind z k u h)) (sum_behind z k cs us h)
 
 module _ (p z w : ℕ) (vs : List (List ℕ)) where
-  raised_sum : (row : List ℕ) → IsWeighted p w vs (λ k. get_or row k 0) → IsWeighted p (z + w) (map (behind_zeros z) vs) (λ k. get_or (behind_zeros z row) k 0)
+  pub raised_sum : (row : List ℕ) → IsWeighted p w vs (λ k. get_or row k 0) → IsWeighted p (z + w) (map (behind_zeros z) vs) (λ k. get_or (behind_zeros z row) k 0)
   raised_sum row h = (h.0, h.1 ∙ sym (length-map vs (behind_zeros z)), λ k l. ⊎_elim
       (λ (a : k < z). ap (λ x. x % p) (in_zeros z k row a ∙ sym (zero_sum z k h.0 vs a)))
       (λ (a : z ≤ k). ap (λ x. x % p) (behind z k row a) ∙ h.2 (k - z) (omega arith) ∙ ap (λ x. x % p) (sym (sum_behind z k h.0 vs a)))
@@ -88,6 +88,10 @@ shorter p z w wide row e f = (
 
 pub spanned_basis : (s : Subspace) → IsReduced s → IsSpannedBy s.prime s.width s.basis s
 spanned_basis s r = record { prime = refl; width = refl; members = λ row. ((λ h. h), λ h. h); reduced = r }
+
+-- a basis row is in its space
+pub own_row : (s : Subspace) → All (IsIn s) s.basis
+own_row s i d l = subst (IsIn s) (get_or_default s.basis i [] d l) (span_of s.prime s.width s.basis (get_or s.basis i []) (member_in s.prime s.width s.basis i l))
 
 pub fits_of : (s : Subspace) → IsReduced s → All (FitsIn s) s.basis
 fits_of s r = r.1.rows
