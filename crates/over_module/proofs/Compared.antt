@@ -1,14 +1,14 @@
 -- Which fractions are in a module.
-use Rattle.std.proofs.Common.{◌≡◌, ◌↔◌, ℕ, ◌+◌, ◌-◌, ◌*◌, ◌<◌, ◌≤◌, List, [], length, get_or, take, All, sym, ap, ap₂, ◌∙◌, subst, refl, arith}
+use Rattle.std.proofs.Common.{◌≡◌, ◌↔◌, ℕ, ◌+◌, ◌-◌, ◌*◌, ◌≤◌, List, [], length, get_or, take, All, sym, ap, ap₂, ◌∙◌, subst, refl, arith}
 use Rattle.comm_ring.specs.Modules.{InSpan}
 use Rattle.comm_ring.specs.Rows.{rows}
 use Rattle.monomials.specs.Mono.{Monomial}
 use Rattle.polys.specs.declared.term.Term.{Term}
 use Rattle.polys.specs.Terms.{IsPoly}
 use Rattle.polys.specs.Curve.{CurveData, HasDimModulo, data_of}
-use Rattle.curve_model.specs.Fraction.{Fraction, IsFraction, AreEqual, over}
+use Rattle.curve_model.specs.Fraction.{Fraction, IsFraction, over}
 use Rattle.curve_model.specs.Laws.{IsFinite}
-use Rattle.row_space.specs.Sums.{IsWeighted, Covers}
+use Rattle.row_space.specs.Sums.{Covers}
 use Rattle.row_space.specs.Echelon.{IsRow}
 use Rattle.row_space.specs.Subspace.{Subspace, FitsIn, IsIn}
 use Rattle.row_space.proofs.Weights.{through}

@@ -1,5 +1,5 @@
 -- Fractions by rows at two depths.
-use Rattle.std.proofs.Common.{◌≡◌, ◌↔◌, ℕ, zero, suc, ◌+◌, ◌-◌, ◌*◌, ◌<◌, List, [], ◌∷◌, ◌++◌, length, replicate, All, refl, sym, ap, ap₂, ◌∙◌, subst, arith}
+use Rattle.std.proofs.Common.{◌≡◌, ◌↔◌, ℕ, zero, suc, ◌+◌, ◌-◌, ◌*◌, ◌<◌, List, [], ◌∷◌, ◌++◌, length, replicate, All, refl, sym, ap, ◌∙◌, subst, arith}
 use Rattle.std.proofs.lemmas.List.{length-append, length-replicate, append_assoc, replicate-append-replicate}
 use Rattle.std.proofs.lemmas.List.Elements.{All-tail}
 use Rattle.comm_ring.specs.Ring.{CommRing}
@@ -13,11 +13,10 @@ use Rattle.polys.proofs.Affine.{poly_add, poly_mul, poly_sub, positive}
 use Rattle.polys.proofs.Sums.{add_normal_left, mul_normal_right}
 use Rattle.ideal_laws.proofs.Differences.{from_sub}
 use Rattle.ideal_laws.proofs.Ideals.{in_more, in_poly}
-use Rattle.curve_model.specs.Fraction.{Fraction, IsFraction, AreEqual, InA, denominator_power, over, product_of}
+use Rattle.curve_model.specs.Fraction.{Fraction, IsFraction, AreEqual, denominator_power, over, product_of}
 use Rattle.curve_model.specs.Laws.{IsFinite}
 use Rattle.curve_model.specs.OneExponent.{InPower, AreAsNumerators}
-use Rattle.curve_laws.proofs.Base.{high, Ring, d, Q, member}
-use Rattle.curve_laws.proofs.StatedLaws.{product_poly}
+use Rattle.curve_laws.proofs.Base.{high, Ring, d, member}
 use Rattle.chain_laws.proofs.OneExponent.{eq_refl, eq_sym, eq_trans, eq_product, one_exponent_law}
 use Rattle.standard_monomials.specs.Standard.{polynomial_of}
 use Rattle.standard_monomials.proofs.Powers.{affine_power}
@@ -59,8 +58,8 @@ rest_residues p (suc n) row h = rest_residues p n row (All-tail (λ e. e < p) 0 
 pub rest_fits : (p n m w : ℕ) (row : List ℕ) → w ≡ n + m → IsRow p w (behind_zeros n row) → IsRow p m row
 rest_fits p n m w row e h = (
   (let a : length {A = ℕ} (behind_zeros n row) ≡ length {A = ℕ} (replicate n 0) + length row = length-append (replicate n 0) row in
-  let b : length {A = ℕ} (replicate n 0) ≡ n = length-replicate n 0 in
-  let l : length {A = ℕ} (behind_zeros n row) ≡ w = h.0 in omega arith),
+      let b : length {A = ℕ} (replicate n 0) ≡ n = length-replicate n 0 in
+      let l : length {A = ℕ} (behind_zeros n row) ≡ w = h.0 in omega arith),
   rest_residues p n row h.1,
 )
 

@@ -1,11 +1,11 @@
 -- The least power of d that serves a module.
-use Rattle.std.proofs.Common.{◌≡◌, ℕ, zero, suc, ◌+◌, ◌-◌, ◌*◌, ◌<◌, ◌≤◌, List, length, get_or, All, refl, sym, ap, ◌∙◌, subst, arith, mul-add}
+use Rattle.std.proofs.Common.{◌≡◌, ℕ, zero, suc, ◌+◌, ◌-◌, ◌*◌, ◌<◌, ◌≤◌, List, length, get_or, All, sym, ap, ◌∙◌, subst, arith, mul-add}
 use Rattle.monomials.specs.Mono.{Monomial}
 use Rattle.polys.specs.declared.term.Term.{Term}
 use Rattle.polys.specs.Terms.{IsPoly, sub}
 use Rattle.polys.specs.Curve.{CurveData, data_of}
 use Rattle.ideal_laws.proofs.Ideals.{in_more}
-use Rattle.curve_model.specs.Fraction.{Fraction, IsFraction, AreEqual, EqualsOver, denominator_power, over}
+use Rattle.curve_model.specs.Fraction.{Fraction, IsFraction, EqualsOver, denominator_power, over}
 use Rattle.curve_model.specs.Laws.{IsFinite}
 use Rattle.curve_model.specs.OneExponent.{AreAsNumerators}
 use Rattle.chain_laws.proofs.OneExponent.{eq_trans, one_exponent_law}

@@ -5,15 +5,14 @@ use Rattle.polys.specs.declared.curve.Curve.{Curve}
 use Rattle.polys.proofs.Affine.{positive}
 use Rattle.curve_laws.proofs.Base.{high}
 use Rattle.prime_field.specs.Primes.{IsPrime}
-use Rattle.monomials.specs.Mono.{Monomial}
-use Rattle.polys.specs.Curve.{CurveData, HasDimModulo, data_of}
+use Rattle.polys.specs.Curve.{HasDimModulo, data_of}
 use Rattle.curve_model.specs.Fraction.{Fraction, IsFraction}
 use Rattle.curve_model.specs.Laws.{IsFinite}
 use Rattle.curve_laws.proofs.FitLaws.{fit_law}
 use Rattle.standard_monomials.proofs.Unique.{unique_law}
 use Rattle.row_space.specs.Echelon.{IsRow}
 use Rattle.row_space.specs.Subspace.{Subspace, IsReduced}
-use Rattle.digit_laws.specs.Digits.{AreCornersOf, IsIdealSpace, IsOfDigits}
+use Rattle.digit_laws.specs.Digits.{IsIdealSpace, IsOfDigits}
 use Rattle.digit_laws.proofs.DigitLaws.{digit_law}
 use Rattle.over_laws.specs.Over.{OverData, InRows, HasRows, HaveSameFractions}
 use Rattle.over_module.specs.Raising.{behind_zeros, BeginsWithZeros, IsAtPower, IsRaised, IsSpannedBy}

@@ -1,16 +1,16 @@
 -- As many rows behind zeros.
 use Rattle.std.proofs.Common.{◌≡◌, ℕ, ◌+◌, ◌-◌, ◌*◌, ◌%◌, ◌<◌, ◌≤◌, List, [], ◌∷◌, map, length, get_or, drop, All, refl, sym, ap, ap₂, ◌∙◌, subst, arith}
-use Rattle.std.proofs.lemmas.List.{length-map, get_or-drop, get_or_default}
+use Rattle.std.proofs.lemmas.List.{length-map, get_or-drop}
 use Rattle.prime_field.specs.Primes.{IsPrime}
 use Rattle.prime_field.proofs.Table.{positive_of_prime}
-use Rattle.comm_ring.specs.Modules.{InSpan, Independent}
+use Rattle.comm_ring.specs.Modules.{InSpan}
 use Rattle.comm_ring.specs.Rows.{rows}
 use Rattle.comm_ring.proofs.Exchange as Exchange
 use Rattle.comm_ring.proofs.Fields.{residue_field}
 use Rattle.comm_ring.proofs.Residues.{residues}
 use Rattle.comm_ring.proofs.Rows.{row_module}
-use Rattle.row_space.specs.Sums.{weighted, IsWeighted}
-use Rattle.row_space.specs.Subspace.{Subspace, FitsIn, IsIn, IsReduced}
+use Rattle.row_space.specs.Sums.{weighted}
+use Rattle.row_space.specs.Subspace.{Subspace, IsReduced}
 use Rattle.row_space.proofs.Members.{weighted_of, span_of}
 use Rattle.over_module.specs.Raising.{behind_zeros, IsRaised}
 use Rattle.over_module.proofs.ZeroRows.{behind, fits_of, independent_of, own_row, raised_sum}
@@ -43,9 +43,13 @@ module _ (z p w : ℕ) (prime : IsPrime p) (us vs : List (List ℕ)) where
     low_in i d l =
         let row = get_or us i d in
         let t = weighted_of p (z + w) vs (behind_zeros z row) (r.up row (fits_of low el i d l) (own_row low i d l)) in
-        span_of p w (map (drop z) vs) row (t.0, t.1 ∙ sym (length-map vs (drop z)), λ k m.
-            let at : get_or (behind_zeros z row) (z + k) 0 ≡ get_or row k 0 = behind z (z + k) row (omega arith) ∙ ap (λ n. get_or row n 0) (let q : z + k - z ≡ k = omega arith in q) in
-            ap (λ x. x % p) (sym at) ∙ t.2 (z + k) (omega arith) ∙ ap (λ x. x % p) (sym (sum_dropped z k t.0 vs)))
+        span_of p w (map (drop z) vs) row (
+          t.0,
+          t.1 ∙ sym (length-map vs (drop z)),
+          λ k m.
+              let at : get_or (behind_zeros z row) (z + k) 0 ≡ get_or row k 0 = behind z (z + k) row (omega arith) ∙ ap (λ n. get_or row n 0) (let q : z + k - z ≡ k = omega arith in q) in
+              ap (λ x. x % p) (sym at) ∙ t.2 (z + k) (omega arith) ∙ ap (λ x. x % p) (sym (sum_dropped z k t.0 vs)),
+        )
 
     as_many : length vs ≡ length us
     as_many =

@@ -1,19 +1,14 @@
 -- A itself by rows.
-use Rattle.std.proofs.Common.{◌≡◌, ◌↔◌, ℕ, ◌+◌, ◌*◌, ◌<◌, List, [], ◌∷◌, length, refl, arith}
+use Rattle.std.proofs.Common.{◌≡◌, ◌↔◌, ℕ, ◌*◌, List, [], ◌∷◌, length, refl, arith}
 use Rattle.std.proofs.lemmas.List.Elements.{All-nil, All-cons}
 use Rattle.prime_field.specs.Primes.{IsPrime}
 use Rattle.monomials.specs.Mono.{Monomial}
-use Rattle.comm_ring.specs.Residues.{residue_ops}
-use Rattle.comm_ring.specs.Rows.{rows}
-use Rattle.comm_ring.specs.Modules.{Independent}
 use Rattle.polys.specs.declared.term.Term.{Term}
 use Rattle.polys.specs.declared.curve.Curve.{Curve}
 use Rattle.polys.specs.Terms.{IsPoly}
-use Rattle.polys.specs.Curve.{CurveData, Fit, HasDimModulo, data_of}
-use Rattle.polys.proofs.Affine.{poly_mul, positive}
+use Rattle.polys.specs.Curve.{Fit, HasDimModulo, data_of}
 use Rattle.curve_model.specs.Fraction.{Fraction, IsFraction, InA}
 use Rattle.curve_model.specs.Laws.{IsFinite}
-use Rattle.curve_laws.proofs.Base.{high}
 use Rattle.curve_laws.proofs.FitLaws.{fit_law}
 use Rattle.basis_existence.proofs.Corners.{corners_law}
 use Rattle.row_space.specs.Subspace.{Subspace, FitsIn, IsIn}

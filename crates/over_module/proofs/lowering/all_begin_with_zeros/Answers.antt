@@ -1,4 +1,4 @@
-use Rattle.std.proofs.Common.{◌≤◌, IsTrue, All, length, take, refl, subst, ◌∙◌, arith}
+use Rattle.std.proofs.Common.{◌≤◌, IsTrue, All, length, refl, subst, ◌∙◌, arith}
 use Rattle.std.proofs.lemmas.List.{take_all}
 use Rattle.std.proofs.lemmas.List.Elements.{All-more}
 use Rattle.over_module.specs.Raising.{BeginsWithZeros}

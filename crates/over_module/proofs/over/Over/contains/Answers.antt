@@ -1,4 +1,4 @@
-use Rattle.std.proofs.Common.{◌≡◌, ◌≤◌, ◌↔◌, ◌-◌, ◌*◌, IsTrue, length, take, max, ap₂, sym, subst, ◌∙◌}
+use Rattle.std.proofs.Common.{◌≡◌, ◌≤◌, ◌↔◌, ◌-◌, ◌*◌, IsTrue, length, take, ap₂, sym, subst, ◌∙◌}
 use Rattle.std.proofs.Math.Nat.{le-max_right}
 use Rattle.row_space.specs.Subspace.{FitsIn, IsIn}
 use Rattle.over_module.specs.Raising.{behind_zeros}

@@ -1,5 +1,5 @@
-use Rattle.std.proofs.Common.{◌≡◌, ◌≤◌, ◌<◌, ◌-◌, ◌+◌, ◌*◌, All, ap, ap₂, ◌∙◌, subst, sym}
-use Rattle.over_module.specs.Raising.{BeginsWithZeros, IsAtPower}
+use Rattle.std.proofs.Common.{◌≤◌, ◌<◌, ◌+◌, ◌*◌, All, ap, ◌∙◌, subst, sym}
+use Rattle.over_module.specs.Raising.{BeginsWithZeros}
 use Rattle.over_module.proofs.LeastPower.{is_least}
 use Rattle.over_module.proofs.over.Over.least_power.Goals as goal
 
@@ -11,5 +11,5 @@ returns-clause-least c =
     let basis = c.rows.ensures.basis ∙ ap (λ r. r.basis) c.rows-rows.ensures.value in
     let more : s < o.power → ¬ (All (BeginsWithZeros (o.dimension * (s + 1))) o.rows.basis) =
     λ l a. c.zero_blocks-blocks.ensures.more (subst (λ k. s < k) (sym c.power.ensures) l)
-        (subst (All (BeginsWithZeros (c.corners.result * (s + 1)))) (sym basis) (subst (λ n. All (BeginsWithZeros (n * (s + 1))) o.rows.basis) (sym c.corners.ensures) a)) in
+    (subst (All (BeginsWithZeros (c.corners.result * (s + 1)))) (sym basis) (subst (λ n. All (BeginsWithZeros (n * (s + 1))) o.rows.basis) (sym c.corners.ensures) a)) in
     is_least o c.in_ok-made.made c.rows-rows.ensures.known s most c.in_ok-made.ensures more

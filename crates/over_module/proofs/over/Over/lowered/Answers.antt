@@ -1,7 +1,7 @@
 use Rattle.std.proofs.Common.{◌≡◌, ◌-◌, ◌*◌, map, drop, ap, ap₂, ◌∙◌, subst, sym}
 use Rattle.row_space.specs.Subspace.{IsReduced}
 use Rattle.over_laws.specs.Over.{HasRows}
-use Rattle.over_module.specs.Raising.{IsAtPower, IsSpannedBy}
+use Rattle.over_module.specs.Raising.{IsAtPower}
 use Rattle.over_module.proofs.Moved.{all_moved, spanned_moved, rows_moved, power_moved, lowered_fit, less_rows, less_same, less_rank}
 use Rattle.over_module.proofs.over.Over.lowered.Goals as goal
 use Rattle.over_module.proofs.over.Over.lowered.Goals.{After-as_slice}

@@ -1,7 +1,6 @@
 use Rattle.std.proofs.Common.{◌≡◌, ◌-◌, ◌*◌, map, ap, ap₂, ◌∙◌, subst, sym}
 use Rattle.row_space.specs.Subspace.{IsReduced}
-use Rattle.over_laws.specs.Over.{HasRows}
-use Rattle.over_module.specs.Raising.{behind_zeros, IsAtPower, IsSpannedBy}
+use Rattle.over_module.specs.Raising.{behind_zeros, IsAtPower}
 use Rattle.over_module.proofs.Moved.{all_moved, spanned_moved, rows_moved, power_moved, raised_fit, made_rows, made_same, made_rank}
 use Rattle.over_module.proofs.over.Over.raised.Goals as goal
 use Rattle.over_module.proofs.over.Over.raised.Goals.{After-as_slice}
