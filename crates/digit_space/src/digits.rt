@@ -300,8 +300,10 @@ impl Digits {
         requires right { IsDigitRow self.now b.now }
         ensures { IfOk result (λ row. IsDigitsOf self.now (mul self.now.curve.prime (value_of self.now a.now) (value_of self.now b.now)) row) }
     {
+        let _depth = self.depth;
         let rows = self.multiples(b)?;
-        self.product_by(a, rows.as_slice())
+        let row = self.product_by(a, rows.as_slice())?;
+        Ok(row)
     }
 
     /// The digits of the product of the row's polynomial and a polynomial q, by the digits of q times each corner.

@@ -1,3 +1,4 @@
 pub mod Algebras
 pub mod Done
 pub mod Raising
+pub mod Quotients

@@ -9,6 +9,7 @@ mod done;
 mod lowering;
 mod over;
 mod plain;
+mod quotient;
 mod raising;
 
 pub use base::base_algebra;

@@ -13,5 +13,5 @@ returns c =
     let a = c.args.a.now in
     let b = c.args.b.now in
     let each : AreMultiples g (value_of g b) c.as_slice.result.now = subst (AreMultiples g (value_of g b)) (sym c.as_slice.ensures) c.in_ok-rows.ensures.rows in
-    let d = c.product_by.ensures (value_of g b) (row_poly g s b) each in
-    subst (λ f. IsDigitsOf g f c.result) (mul_comm g.curve.prime (value_of g b) (value_of g a)) d
+    let d = c.in_ok-row.ensures (value_of g b) (row_poly g s b) each in
+    subst (λ f. IsDigitsOf g f c.in_ok-row.row) (mul_comm g.curve.prime (value_of g b) (value_of g a)) d

@@ -1,0 +1,36 @@
+-- The numerators of a ring of fractions over d^k modulo d^(k+1), those of its products with a point, and what is left of the
+-- former modulo the latter.
+use Rattle.std.specs.Prelude.{◌≡◌, ◌↔◌, ℕ, suc, ◌+◌, ◌-◌, ◌*◌, ◌<◌, List, [], ◌++◌, length, take, drop, replicate, slice_index_or, All}
+use Rattle.comm_ring.specs.Rows.{rows}
+use Rattle.comm_ring.specs.Modules.{combination}
+use Rattle.monomials.specs.Mono.{Monomial}
+use Rattle.polys.specs.declared.term.Term.{Term}
+use Rattle.polys.specs.Terms.{mul}
+use Rattle.polys.specs.Curve.{data_of}
+use Rattle.row_space.specs.Echelon.{IsRow}
+use Rattle.row_space.specs.Subspace.{Subspace, FitsIn, IsIn, DifferIn, IsZeroAtPivots, IsReduced}
+use Rattle.finite_algebra.specs.Elements.{unit_row}
+use Rattle.digit_laws.specs.Digits.{AreDigits}
+use Rattle.digit_space.specs.Model.{DigitData, value_of, width}
+use Rattle.over_laws.specs.Over.{OverData}
+
+-- the basis rows of m entries, each with zeros behind it up to w entries, and then the unit rows for so many places from m on
+pub record AreFirstGenerators (m w many : ℕ) (basis made : List (List ℕ)) : Type 0 where
+  pub count : length made ≡ length basis + many
+  pub filled : (i : ℕ) → i < length basis → slice_index_or made i [] ≡ slice_index_or basis i [] ++ replicate (w - m) 0
+  pub units : (j : ℕ) → j < many → slice_index_or made (length basis + j) [] ≡ unit_row w (m + j)
+
+-- the unit rows for all other places
+abbrev pub AreGenerators : ℕ → ℕ → List (List ℕ) → List (List ℕ) → Type 0
+AreGenerators m w basis made = AreFirstGenerators m w (w - m) basis made
+
+-- the rows of w entries whose first m entries are in the low space
+pub record HasFronts (w m : ℕ) (low space : Subspace) : Type 0 where
+  pub prime : space.prime ≡ low.prime
+  pub width : space.width ≡ w
+  pub reduced : IsReduced space
+  pub members : (row : List ℕ) → IsRow low.prime w row → IsIn space row ↔ IsIn low (take m row)
+
+-- the digits at the depth k + 1 of the module's numerators over d^k, for n corners
+abbrev pub HoldsNumerators : OverData → ℕ → Subspace → Type 0
+HoldsNumerators o n space = HasFronts (n * suc o.power) (n * o.power) o.rows space

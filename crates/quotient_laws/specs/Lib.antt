@@ -1,0 +1,4 @@
+pub mod Quotients
+pub mod ProductRows
+pub mod QuotientRows
+pub mod OverQuotients
