@@ -112,12 +112,6 @@ module _ (A : CurveData) (c : IsFinite A) (ms : List Monomial) (k : AreCornersOf
   laws : (T : ℕ) → DigitsAreCoordinates A ms T
   laws T = digit_law A c ms k T
 
-  abbrev p : ℕ
-  p = A.prime
-
-  abbrev n : ℕ
-  n = length ms
-
   -- the digits of d^s f are those of f behind s blocks of zeros
   pub raise_digits : (s K D z : ℕ) (f : List Term) (row : List ℕ) → P A c f → D ≡ s + K → z ≡ length ms * s → AreDigits A ms K f row
       → AreDigits A ms D (raise A s f) (behind_zeros z row)
@@ -129,6 +123,12 @@ module _ (A : CurveData) (c : IsFinite A) (ms : List Monomial) (k : AreCornersOf
       subst (AreDigits A ms (suc D) (mul A.prime A.denominator (raise A s f))) (zeros_more (length ms) s z row b)
       ((blocks.up D (raise A s f) (behind_zeros (length ms * s) row) (raise_poly A c s f h)).0
       (raise_digits s K D (length ms * s) f row h (let q : suc D ≡ suc s + K = e in omega arith) refl a))
+
+  -- b - d w - d q is b - d (w + q)
+  gathered_in : (b w q : List Term) → P A c b → P A c w → P A c q → InIdeal A.prime A.variables A.ideal (sub A.prime (sub A.prime b (mul A.prime A.denominator w)) (mul A.prime A.denominator q))
+      → InIdeal A.prime A.variables A.ideal (sub A.prime b (mul A.prime A.denominator (add A.prime w q)))
+  gathered_in b w q hb hw hq =
+      subst (InIdeal A.prime A.variables A.ideal) (gathered (Ring A c.curve) (member A c.curve b hb) (d A c.curve) (member A c.curve w hw) (member A c.curve q hq))
 
   -- what has such digits over d^(D+1) is some b over d^D with the digits behind the zeros
   pub divided_once : (D : ℕ) (b : List Term) (rest : List ℕ) → P A c b → AreDigits A ms (suc D) b (behind_zeros (length ms) rest)
@@ -156,8 +156,7 @@ module _ (A : CurveData) (c : IsFinite A) (ms : List Monomial) (k : AreCornersOf
       let hg = poly_add A.prime A.variables (value A ms D rest) (raise A D i.0) (pos A c) hw hq in
       let dg = mul A.prime A.denominator (add A.prime (value A ms D rest) (raise A D i.0)) in
       let hdg = poly_mul A.prime A.variables A.denominator g (pos A c) c.curve.denominator hg in
-      let there : InIdeal A.prime A.variables A.ideal (sub A.prime b dg) =
-      subst (InIdeal A.prime A.variables A.ideal) (gathered (Ring A c.curve) (member A c.curve b hb) (d A c.curve) (member A c.curve w hw) (member A c.curve q hq)) inside in
+      let there : InIdeal A.prime A.variables A.ideal (sub A.prime b dg) = gathered_in b w q hb hw hq inside in
       record {
         numerator = g;
         poly = hg;

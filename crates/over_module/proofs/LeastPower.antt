@@ -62,7 +62,6 @@ module _ (o q : OverData) (h : HasRows o) (s : ℕ) (le : s ≤ o.power) (there 
         let inside = of_has (data_of o.curve) (finite o h) h.corners h.known o.power o.rows v hv (row, a, own_row o.rows i d j) in
         let low : EqualsOver (data_of o.curve) L f =
         subst (λ C. EqualsOver (data_of C) L f) there.curve (all f (subst (λ C. IsFraction (data_of C) f) (sym there.curve) hv) ((there.same f hv).0 inside)) in
-        let M = o.power - (s + 1) in
         begins_row (data_of o.curve) (finite o h) h.corners h.known (s + 1) (o.power - (s + 1)) o.power (o.dimension * (s + 1)) v row hv a
         (let e : o.power ≡ (s + 1) + (o.power - (s + 1)) = omega arith in e) (ap (λ n. n * (s + 1)) (count o h))
         (equals_up (data_of o.curve) (finite o h) h.corners h.known ((o.power - (s + 1)) - L) L (o.power - (s + 1)) f hv (let e : o.power - (s + 1) ≡ ((o.power - (s + 1)) - L) + L = omega arith in e) low)

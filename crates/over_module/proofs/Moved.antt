@@ -106,9 +106,6 @@ module _ (o : OverData) (h : HasRows o) (e : IsReduced o.rows) where
 
   -- ---- at a greater power
   module _ (D : ℕ) (le : o.power ≤ D) where
-    abbrev pub Zeros : ℕ
-    Zeros = o.dimension * (D - o.power)
-
     wide : o.dimension * D ≡ o.dimension * (D - o.power) + o.rows.width
     wide = ap (λ n. o.dimension * n) (let q : D ≡ (D - o.power) + o.power = omega arith in q) ∙ mul-add o.dimension (D - o.power) o.power ∙ ap (λ n. o.dimension * (D - o.power) + n) (sym h.rows_width)
 

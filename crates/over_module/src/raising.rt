@@ -54,7 +54,12 @@ fn all_without(
 }
 
 // The space that the rows span.
-pub(crate) fn spanned(alloc: Global, prime: Prime, width: usize, rows: &[List<u32>]) -> Result<Space, NoMemory>
+pub(crate) fn spanned(
+    alloc: Global,
+    prime: Prime,
+    width: usize,
+    rows: &[List<u32>],
+) -> Result<Space, NoMemory>
     requires { All (IsRow prime width) rows.now }
     ensures { IfOk result (IsSpannedBy prime width rows.now) }
 {
