@@ -27,7 +27,8 @@ pub record IsRaised (zeros : ℕ) (low high : Subspace) : Type 0 where
   pub prime : high.prime ≡ low.prime
   pub width : high.width ≡ zeros + low.width
   pub up : (row : List ℕ) → FitsIn low row → IsIn low row → IsIn high (behind_zeros zeros row)
-  pub down : (row : List ℕ) → FitsIn high row → IsIn high row → (rest : List ℕ) × (row ≡ behind_zeros zeros rest) × IsIn low rest
+  pub down : (row : List ℕ) → FitsIn high row → IsIn high row
+      → (rest : List ℕ) × (row ≡ behind_zeros zeros rest) × IsIn low rest
 
 -- the same fractions over d^K, by as many rows
 pub record IsAtPower (o : OverData) (K : ℕ) (q : OverData) : Type 0 where

@@ -27,10 +27,11 @@ fn has_all(space: &Space, rows: &[List<u32>]) -> Result<bool, NoMemory>
 }
 
 impl Over {
-    /// Whether the polynomial over d^k is in the module. The digits are those of its curve, as deep as k and as its power.
+    /// Whether the polynomial over d^k is in the module. The digits are those of its curve, as deep as k and as its
+    /// power.
     ///
-    /// It takes the digits of the polynomial, and where k is above the power the module's rows over d^k; then one reduction of a
-    /// row.
+    /// It takes the digits of the polynomial, and a copy of the module's rows over the greater of d^k and its power; then
+    /// one reduction of a row.
     ///
     /// # Errors
     /// Want of memory.

@@ -47,7 +47,8 @@ fn zero_blocks(rows: &[List<u32>], corners: u32, power: u32) -> u32
 impl Over {
     /// The same module over the least power of d.
     ///
-    /// It takes a look at the zeros that begin each row, and a copy of the rows without the blocks that are 0 in all of them.
+    /// It takes a look at the zeros that begin each row, and a copy of the rows without the blocks that are 0 in all of
+    /// them.
     ///
     /// # Errors
     /// Want of memory.
