@@ -26,6 +26,10 @@ use Rattle.over_module.proofs.Moved.{finite, count, corner_count}
 
 -- ---- a fraction over d^k
 
+-- a module is over its own power
+pub own_power : (o : OverData) → IsAtPower o o.power o
+own_power o = record { curve = refl; dimension = refl; power = refl; same = λ f hf. ((λ i. i), λ i. i); rank = refl }
+
 module _ (o q : OverData) (D : ℕ) (h : HasRows o) (hq : HasRows q) (there : IsAtPower o D q) (g : DigitData) (s : IsDigitSpace g) (e : g.curve ≡ o.curve) (f : List Term)
     (hf : IsPoly o.curve.prime o.curve.variables f) (k : ℕ) (le : k ≤ D) (deep : k ≤ g.depth) (row : List ℕ) (a : IsDigitsOf g f row) where
   corners : AreCornersOf (data_of o.curve) g.basis
