@@ -1,18 +1,17 @@
 -- Which fractions are in a module.
-use Rattle.std.proofs.Common.{◌≡◌, ◌↔◌, ℕ, ◌+◌, ◌-◌, ◌*◌, ◌<◌, ◌≤◌, List, [], length, get_or, take, All, sym, ap, ap₂, ◌∙◌, subst, refl, arith}
-use Rattle.std.proofs.lemmas.List.{get_or_default}
+use Rattle.std.proofs.Common.{◌≡◌, ◌↔◌, ℕ, ◌+◌, ◌-◌, ◌*◌, ◌≤◌, List, [], length, get_or, take, All, sym, ap, ap₂, ◌∙◌, subst, refl, arith}
 use Rattle.comm_ring.specs.Modules.{InSpan}
 use Rattle.comm_ring.specs.Rows.{rows}
 use Rattle.monomials.specs.Mono.{Monomial}
 use Rattle.polys.specs.declared.term.Term.{Term}
 use Rattle.polys.specs.Terms.{IsPoly}
 use Rattle.polys.specs.Curve.{CurveData, HasDimModulo, data_of}
-use Rattle.curve_model.specs.Fraction.{Fraction, IsFraction, AreEqual, over}
+use Rattle.curve_model.specs.Fraction.{Fraction, IsFraction, over}
 use Rattle.curve_model.specs.Laws.{IsFinite}
-use Rattle.row_space.specs.Sums.{IsWeighted, Covers}
+use Rattle.row_space.specs.Sums.{Covers}
 use Rattle.row_space.specs.Echelon.{IsRow}
 use Rattle.row_space.specs.Subspace.{Subspace, FitsIn, IsIn}
-use Rattle.row_space.proofs.Weights.{member_in, through}
+use Rattle.row_space.proofs.Weights.{through}
 use Rattle.row_space.proofs.Members.{weighted_of, span_of}
 use Rattle.digit_laws.specs.Digits.{AreCornersOf, AreDigits, IsOfDigits, value}
 use Rattle.digit_laws.proofs.Blocks.{block_law}
@@ -22,9 +21,14 @@ use Rattle.digit_space.specs.Model.{DigitData, IsDigitSpace, IsDigitsOf}
 use Rattle.over_laws.specs.Over.{OverData, InOver, InRows, HasRows, HaveSameFractions}
 use Rattle.over_module.specs.Raising.{behind_zeros, HoldsFractions, IsAtPower}
 use Rattle.over_module.proofs.DepthRows.{raise, raise_poly, raise_equal, raise_digits, decided, known, in_rows, of_has, has_of, row_in}
+use Rattle.over_module.proofs.ZeroRows.{own_row}
 use Rattle.over_module.proofs.Moved.{finite, count, corner_count}
 
 -- ---- a fraction over d^k
+
+-- a module is over its own power
+pub own_power : (o : OverData) → IsAtPower o o.power o
+own_power o = record { curve = refl; dimension = refl; power = refl; same = λ f hf. ((λ i. i), λ i. i); rank = refl }
 
 module _ (o q : OverData) (D : ℕ) (h : HasRows o) (hq : HasRows q) (there : IsAtPower o D q) (g : DigitData) (s : IsDigitSpace g) (e : g.curve ≡ o.curve) (f : List Term)
     (hf : IsPoly o.curve.prime o.curve.variables f) (k : ℕ) (le : k ≤ D) (deep : k ≤ g.depth) (row : List ℕ) (a : IsDigitsOf g f row) where
@@ -96,9 +100,7 @@ module _ (A : CurveData) (c : IsFinite A) (ms : List Monomial) (k : AreCornersOf
       let v = value A ms T (get_or S.basis i d) in
       let hv = value_poly A c ms k T (get_or S.basis i d) in
       let a : AreDigits A ms T (value A ms T (get_or S.basis i d)) (get_or S.basis i d) = ((digit_law A c ms k T).row (get_or S.basis i d) f).1 in
-      let own : IsIn S (get_or S.basis i d) =
-      subst (IsIn S) (get_or_default S.basis i [] d l) (span_of S.prime S.width S.basis (get_or S.basis i []) (member_in S.prime S.width S.basis i l)) in
-      row_in A c ms k T W v row hv a (has_of A c ms k T W v hv (h (over v T) hv (of_has A c ms k T S v hv (row, a, own))))
+      row_in A c ms k T W v row hv a (has_of A c ms k T W v hv (h (over v T) hv (of_has A c ms k T S v hv (row, a, own_row S i d l))))
 
 -- of two modules over one power
 module _ (o q : OverData) (h : HasRows o) (hq : HasRows q) (curve : q.curve ≡ o.curve) (power : q.power ≡ o.power) where

@@ -1,5 +1,5 @@
 -- Fractions by rows at two depths.
-use Rattle.std.proofs.Common.{◌≡◌, ◌↔◌, ℕ, zero, suc, ◌+◌, ◌-◌, ◌*◌, ◌<◌, List, [], ◌∷◌, ◌++◌, length, replicate, All, refl, sym, ap, ap₂, ◌∙◌, subst, arith}
+use Rattle.std.proofs.Common.{◌≡◌, ◌↔◌, ℕ, zero, suc, ◌+◌, ◌-◌, ◌*◌, ◌<◌, List, [], ◌∷◌, ◌++◌, length, replicate, All, refl, sym, ap, ◌∙◌, subst, arith}
 use Rattle.std.proofs.lemmas.List.{length-append, length-replicate, append_assoc, replicate-append-replicate}
 use Rattle.std.proofs.lemmas.List.Elements.{All-tail}
 use Rattle.comm_ring.specs.Ring.{CommRing}
@@ -13,11 +13,10 @@ use Rattle.polys.proofs.Affine.{poly_add, poly_mul, poly_sub, positive}
 use Rattle.polys.proofs.Sums.{add_normal_left, mul_normal_right}
 use Rattle.ideal_laws.proofs.Differences.{from_sub}
 use Rattle.ideal_laws.proofs.Ideals.{in_more, in_poly}
-use Rattle.curve_model.specs.Fraction.{Fraction, IsFraction, AreEqual, InA, denominator_power, over, product_of}
+use Rattle.curve_model.specs.Fraction.{Fraction, IsFraction, AreEqual, denominator_power, over, product_of}
 use Rattle.curve_model.specs.Laws.{IsFinite}
 use Rattle.curve_model.specs.OneExponent.{InPower, AreAsNumerators}
-use Rattle.curve_laws.proofs.Base.{high, Ring, d, Q, member}
-use Rattle.curve_laws.proofs.StatedLaws.{product_poly}
+use Rattle.curve_laws.proofs.Base.{high, Ring, d, member}
 use Rattle.chain_laws.proofs.OneExponent.{eq_refl, eq_sym, eq_trans, eq_product, one_exponent_law}
 use Rattle.standard_monomials.specs.Standard.{polynomial_of}
 use Rattle.standard_monomials.proofs.Powers.{affine_power}
@@ -59,8 +58,8 @@ rest_residues p (suc n) row h = rest_residues p n row (All-tail (λ e. e < p) 0 
 pub rest_fits : (p n m w : ℕ) (row : List ℕ) → w ≡ n + m → IsRow p w (behind_zeros n row) → IsRow p m row
 rest_fits p n m w row e h = (
   (let a : length {A = ℕ} (behind_zeros n row) ≡ length {A = ℕ} (replicate n 0) + length row = length-append (replicate n 0) row in
-  let b : length {A = ℕ} (replicate n 0) ≡ n = length-replicate n 0 in
-  let l : length {A = ℕ} (behind_zeros n row) ≡ w = h.0 in omega arith),
+      let b : length {A = ℕ} (replicate n 0) ≡ n = length-replicate n 0 in
+      let l : length {A = ℕ} (behind_zeros n row) ≡ w = h.0 in omega arith),
   rest_residues p n row h.1,
 )
 
@@ -113,12 +112,6 @@ module _ (A : CurveData) (c : IsFinite A) (ms : List Monomial) (k : AreCornersOf
   laws : (T : ℕ) → DigitsAreCoordinates A ms T
   laws T = digit_law A c ms k T
 
-  abbrev p : ℕ
-  p = A.prime
-
-  abbrev n : ℕ
-  n = length ms
-
   -- the digits of d^s f are those of f behind s blocks of zeros
   pub raise_digits : (s K D z : ℕ) (f : List Term) (row : List ℕ) → P A c f → D ≡ s + K → z ≡ length ms * s → AreDigits A ms K f row
       → AreDigits A ms D (raise A s f) (behind_zeros z row)
@@ -130,6 +123,12 @@ module _ (A : CurveData) (c : IsFinite A) (ms : List Monomial) (k : AreCornersOf
       subst (AreDigits A ms (suc D) (mul A.prime A.denominator (raise A s f))) (zeros_more (length ms) s z row b)
       ((blocks.up D (raise A s f) (behind_zeros (length ms * s) row) (raise_poly A c s f h)).0
       (raise_digits s K D (length ms * s) f row h (let q : suc D ≡ suc s + K = e in omega arith) refl a))
+
+  -- b - d w - d q is b - d (w + q)
+  gathered_in : (b w q : List Term) → P A c b → P A c w → P A c q → InIdeal A.prime A.variables A.ideal (sub A.prime (sub A.prime b (mul A.prime A.denominator w)) (mul A.prime A.denominator q))
+      → InIdeal A.prime A.variables A.ideal (sub A.prime b (mul A.prime A.denominator (add A.prime w q)))
+  gathered_in b w q hb hw hq =
+      subst (InIdeal A.prime A.variables A.ideal) (gathered (Ring A c.curve) (member A c.curve b hb) (d A c.curve) (member A c.curve w hw) (member A c.curve q hq))
 
   -- what has such digits over d^(D+1) is some b over d^D with the digits behind the zeros
   pub divided_once : (D : ℕ) (b : List Term) (rest : List ℕ) → P A c b → AreDigits A ms (suc D) b (behind_zeros (length ms) rest)
@@ -157,8 +156,7 @@ module _ (A : CurveData) (c : IsFinite A) (ms : List Monomial) (k : AreCornersOf
       let hg = poly_add A.prime A.variables (value A ms D rest) (raise A D i.0) (pos A c) hw hq in
       let dg = mul A.prime A.denominator (add A.prime (value A ms D rest) (raise A D i.0)) in
       let hdg = poly_mul A.prime A.variables A.denominator g (pos A c) c.curve.denominator hg in
-      let there : InIdeal A.prime A.variables A.ideal (sub A.prime b dg) =
-      subst (InIdeal A.prime A.variables A.ideal) (gathered (Ring A c.curve) (member A c.curve b hb) (d A c.curve) (member A c.curve w hw) (member A c.curve q hq)) inside in
+      let there : InIdeal A.prime A.variables A.ideal (sub A.prime b dg) = gathered_in b w q hb hw hq inside in
       record {
         numerator = g;
         poly = hg;

@@ -4,19 +4,20 @@ use Rattle.std.proofs.lemmas.List.Elements.{All-map}
 use Rattle.polys.specs.declared.curve.Curve.{Curve}
 use Rattle.polys.proofs.Affine.{positive}
 use Rattle.curve_laws.proofs.Base.{high}
-use Rattle.monomials.specs.Mono.{Monomial}
-use Rattle.polys.specs.Curve.{CurveData, HasDimModulo, data_of}
+use Rattle.prime_field.specs.Primes.{IsPrime}
+use Rattle.polys.specs.Curve.{HasDimModulo, data_of}
 use Rattle.curve_model.specs.Fraction.{Fraction, IsFraction}
 use Rattle.curve_model.specs.Laws.{IsFinite}
 use Rattle.curve_laws.proofs.FitLaws.{fit_law}
 use Rattle.standard_monomials.proofs.Unique.{unique_law}
 use Rattle.row_space.specs.Echelon.{IsRow}
 use Rattle.row_space.specs.Subspace.{Subspace, IsReduced}
-use Rattle.digit_laws.specs.Digits.{AreCornersOf, IsIdealSpace, IsOfDigits}
+use Rattle.digit_laws.specs.Digits.{IsIdealSpace, IsOfDigits}
 use Rattle.digit_laws.proofs.DigitLaws.{digit_law}
 use Rattle.over_laws.specs.Over.{OverData, InRows, HasRows, HaveSameFractions}
 use Rattle.over_module.specs.Raising.{behind_zeros, BeginsWithZeros, IsAtPower, IsRaised, IsSpannedBy}
 use Rattle.over_module.proofs.DepthRows.{raised_same, ideal_moved}
+use Rattle.over_module.proofs.Ranks.{same_rank}
 use Rattle.over_module.proofs.ZeroRows.{fits_of, independent_of, longer, shorter, raised_space, spanned_basis, zeros_back}
 
 module _ (o : OverData) (h : HasRows o) where
@@ -88,21 +89,23 @@ module _ (o : OverData) (D : ℕ) (S : Subspace) (C : Curve) (n : ℕ) (ec : C �
   rows_moved h = subst (λ m. HasRows (record { curve = C; dimension = m; power = D; rows = S })) (sym en)
       (subst (λ K. HasRows (record { curve = K; dimension = o.dimension; power = D; rows = S })) (sym ec) h)
 
-  pub power_moved : HaveSameFractions o (record { curve = o.curve; dimension = o.dimension; power = D; rows = S }) → IsAtPower o D (record { curve = C; dimension = n; power = D; rows = S })
-  power_moved h = record {
+  pub power_moved : HaveSameFractions o (record { curve = o.curve; dimension = o.dimension; power = D; rows = S }) → length S.basis ≡ length o.rows.basis
+      → IsAtPower o D (record { curve = C; dimension = n; power = D; rows = S })
+  power_moved h rank = record {
     curve = ec;
     dimension = en;
     power = refl;
     same = subst (λ m. HaveSameFractions o (record { curve = C; dimension = m; power = D; rows = S })) (sym en)
         (subst (λ K. HaveSameFractions o (record { curve = K; dimension = o.dimension; power = D; rows = S })) (sym ec) h);
+    rank = rank;
   }
 
 module _ (o : OverData) (h : HasRows o) (e : IsReduced o.rows) where
+  rows_prime : IsPrime o.rows.prime
+  rows_prime = subst IsPrime (sym h.rows_prime) h.prime
+
   -- ---- at a greater power
   module _ (D : ℕ) (le : o.power ≤ D) where
-    abbrev pub Zeros : ℕ
-    Zeros = o.dimension * (D - o.power)
-
     wide : o.dimension * D ≡ o.dimension * (D - o.power) + o.rows.width
     wide = ap (λ n. o.dimension * n) (let q : D ≡ (D - o.power) + o.power = omega arith in q) ∙ mul-add o.dimension (D - o.power) o.power ∙ ap (λ n. o.dimension * (D - o.power) + n) (sym h.rows_width)
 
@@ -119,6 +122,9 @@ module _ (o : OverData) (h : HasRows o) (e : IsReduced o.rows) where
 
       pub made_same : HaveSameFractions o (record { curve = o.curve; dimension = o.dimension; power = D; rows = S })
       made_same = raised_fractions o h (D - o.power) D (o.dimension * (D - o.power)) S (let q : D ≡ (D - o.power) + o.power = omega arith in q) refl raised_is
+
+      pub made_rank : length S.basis ≡ length o.rows.basis
+      made_rank = same_rank (o.dimension * (D - o.power)) o.rows S rows_prime raised_is e s.reduced
 
   -- ---- at a smaller power
   module _ (s : ℕ) (le : s ≤ o.power) where
@@ -147,3 +153,6 @@ module _ (o : OverData) (h : HasRows o) (e : IsReduced o.rows) where
 
       pub less_same : HaveSameFractions o (record { curve = o.curve; dimension = o.dimension; power = o.power - s; rows = S })
       less_same = lowered_fractions o h s (o.power - s) (o.dimension * s) S (let q : o.power ≡ s + (o.power - s) = omega arith in q) refl digits lowered_is
+
+      pub less_rank : length S.basis ≡ length o.rows.basis
+      less_rank = sym (same_rank (o.dimension * s) S o.rows (subst IsPrime (sym t.prime) rows_prime) lowered_is t.reduced e)

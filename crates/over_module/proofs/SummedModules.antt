@@ -4,7 +4,7 @@ use Rattle.polys.specs.Curve.{data_of}
 use Rattle.curve_model.specs.Fraction.{Fraction, IsFraction}
 use Rattle.curve_model.specs.Steps.{IsSumOfTwo}
 use Rattle.row_space.specs.Subspace.{Subspace, IsIn, IsReduced, IsSumOf}
-use Rattle.digit_laws.specs.Digits.{AreCornersOf, IsIdealSpace, IsOfDigits}
+use Rattle.digit_laws.specs.Digits.{AreCornersOf, IsIdealSpace}
 use Rattle.digit_laws.proofs.Corners.{corners_law}
 use Rattle.over_laws.specs.Over.{OverData, InOver, InRows, HasRows}
 use Rattle.over_module.specs.Raising.{IsAtPower}

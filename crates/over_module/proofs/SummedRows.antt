@@ -1,5 +1,5 @@
 -- Sums of two modules over one power of d.
-use Rattle.std.proofs.Common.{◌≡◌, ◌↔◌, ℕ, ◌+◌, ◌-◌, ◌*◌, ◌%◌, ◌<◌, List, [], ◌∷◌, length, get_or, refl, sym, ap, ap₂, ◌∙◌, subst, arith}
+use Rattle.std.proofs.Common.{◌≡◌, ◌↔◌, ℕ, ◌+◌, ◌-◌, ◌*◌, ◌%◌, ◌<◌, List, [], ◌∷◌, length, get_or, refl, sym, ap, ◌∙◌, subst, arith}
 use Rattle.std.proofs.Math.Nat.{mod-eq_of_lt}
 use Rattle.comm_ring.specs.Ring.{CommRing}
 use Rattle.comm_ring.specs.Modules.{InSpan, IsSubmodule}
@@ -20,11 +20,11 @@ use Rattle.curve_model.specs.OneExponent.{AreAsNumerators}
 use Rattle.curve_model.specs.Steps.{IsSumOfTwo}
 use Rattle.curve_laws.proofs.Base.{high, Ring, member}
 use Rattle.curve_laws.proofs.StatedLaws.{sum_poly, power_poly}
-use Rattle.chain_laws.proofs.OneExponent.{eq_refl, eq_sym, eq_trans, eq_sum, one_exponent_law}
+use Rattle.chain_laws.proofs.OneExponent.{eq_sym, eq_trans, eq_sum, one_exponent_law}
 use Rattle.standard_monomials.specs.Standard.{polynomial_of}
 use Rattle.row_space.specs.Echelon.{IsRow}
 use Rattle.row_space.specs.Subspace.{Subspace, IsIn, IsSumOf}
-use Rattle.digit_laws.specs.Digits.{AreCornersOf, AreDigits, HasDigitsIn, IsIdealSpace, IsOfDigits, value}
+use Rattle.digit_laws.specs.Digits.{AreCornersOf, AreDigits, IsIdealSpace, IsOfDigits, value}
 use Rattle.digit_laws.specs.Laws.{DigitsAreCoordinates}
 use Rattle.digit_laws.proofs.DigitLaws.{digit_law, value_poly, row_fits}
 use Rattle.over_laws.specs.Over.{InRows}

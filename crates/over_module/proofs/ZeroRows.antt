@@ -1,29 +1,28 @@
 -- Spaces of rows that begin with zeros.
-use Rattle.std.proofs.Common.{◌≡◌, ◌↔◌, ◌⊎◌, ℕ, zero, suc, ◌+◌, ◌-◌, ◌*◌, ◌%◌, ◌<◌, ◌≤◌, List, [], ◌∷◌, ◌++◌, map, length, get_or, take, drop, replicate, All, refl, sym, ap, ap₂, ◌∙◌, subst, arith, ⊎_elim}
+use Rattle.std.proofs.Common.{◌≡◌, ℕ, zero, suc, ◌+◌, ◌-◌, ◌*◌, ◌%◌, ◌<◌, ◌≤◌, List, [], ◌∷◌, map, length, get_or, drop, replicate, All, refl, sym, ap, ap₂, ◌∙◌, subst, arith, ⊎_elim}
 use Rattle.std.proofs.lemmas.Bool.{cases_lt}
-use Rattle.std.proofs.lemmas.List.{length-append, length-replicate, length-map, length-drop, get_or-replicate, get_or-append_right, get_or_append_left, get_or-drop, get_or_default, take-append-drop}
-use Rattle.std.proofs.lemmas.List.Elements.{All-head, All-tail, All-append, All-map}
+use Rattle.std.proofs.lemmas.List.{length-append, length-replicate, length-map, length-drop, get_or-replicate, get_or-append_right, get_or_append_left, get_or-drop, get_or_default}
+use Rattle.std.proofs.lemmas.List.Elements.{All-head, All-tail, All-append}
 use Rattle.std.proofs.Math.Nat.{mod-eq_of_lt, zero-mod, mod-mod}
-use Rattle.comm_ring.specs.Modules.{InSpan, Independent, combination}
+use Rattle.comm_ring.specs.Modules.{InSpan, Independent}
 use Rattle.comm_ring.specs.Residues.{residue_ops}
 use Rattle.comm_ring.specs.Rows.{rows}
 use Rattle.comm_ring.proofs.Rows.{row-entry}
-use Rattle.row_space.specs.Sums.{entry, weighted, IsWeighted, Covers}
+use Rattle.row_space.specs.Sums.{weighted, IsWeighted}
 use Rattle.row_space.specs.Echelon.{IsRow, IsEchelon}
 use Rattle.row_space.specs.Subspace.{Subspace, FitsIn, IsIn, IsReduced, Joins}
-use Rattle.row_space.proofs.Weights.{weighted-one, through, covers_trans}
+use Rattle.row_space.proofs.Weights.{member_in, weighted-one, through}
 use Rattle.row_space.proofs.Members.{combination-entry, weighted_of, span_of}
 use Rattle.over_module.specs.Raising.{behind_zeros, BeginsWithZeros, IsSpannedBy, IsRaised}
-use Rattle.over_module.proofs.DepthRows.{rest_fits}
 
 -- ---- entries behind zeros
 
-in_zeros : (z k : ℕ) (row : List ℕ) → k < z → get_or (behind_zeros z row) k 0 ≡ 0
+pub in_zeros : (z k : ℕ) (row : List ℕ) → k < z → get_or (behind_zeros z row) k 0 ≡ 0
 in_zeros z k row h =
     let l : length {A = ℕ} (replicate z 0) ≡ z = length-replicate z 0 in
     get_or_append_left (replicate z 0) row 0 k (let q : k < length {A = ℕ} (replicate z 0) = omega arith in q) ∙ get_or-replicate z k 0 0 h
 
-behind : (z k : ℕ) (row : List ℕ) → z ≤ k → get_or (behind_zeros z row) k 0 ≡ get_or row (k - z) 0
+pub behind : (z k : ℕ) (row : List ℕ) → z ≤ k → get_or (behind_zeros z row) k 0 ≡ get_or row (k - z) 0
 behind z k row h = get_or-append_right (replicate z 0) row z k 0 (length-replicate z 0) h
 
 zero_sum : (z k : ℕ) (cs : List ℕ) (us : List (List ℕ)) → k < z → weighted cs (map (behind_zeros z) us) k ≡ 0
@@ -37,17 +36,25 @@ sum_behind z k (c ∷ cs) [] h = refl
 sum_behind z k (c ∷ cs) (u ∷ us) h = ap₂ ◌+◌ (ap (λ x. c * x) (behind z k u h)) (sum_behind z k cs us h)
 
 module _ (p z w : ℕ) (vs : List (List ℕ)) where
-  raised_sum : (row : List ℕ) → IsWeighted p w vs (λ k. get_or row k 0) → IsWeighted p (z + w) (map (behind_zeros z) vs) (λ k. get_or (behind_zeros z row) k 0)
-  raised_sum row h = (h.0, h.1 ∙ sym (length-map vs (behind_zeros z)), λ k l. ⊎_elim
-      (λ (a : k < z). ap (λ x. x % p) (in_zeros z k row a ∙ sym (zero_sum z k h.0 vs a)))
-      (λ (a : z ≤ k). ap (λ x. x % p) (behind z k row a) ∙ h.2 (k - z) (omega arith) ∙ ap (λ x. x % p) (sym (sum_behind z k h.0 vs a)))
-      (cases_lt k z))
+  pub raised_sum : (row : List ℕ) → IsWeighted p w vs (λ k. get_or row k 0) → IsWeighted p (z + w) (map (behind_zeros z) vs) (λ k. get_or (behind_zeros z row) k 0)
+  raised_sum row h = (
+    h.0,
+    h.1 ∙ sym (length-map vs (behind_zeros z)),
+    λ k l. ⊎_elim
+        (λ (a : k < z). ap (λ x. x % p) (in_zeros z k row a ∙ sym (zero_sum z k h.0 vs a)))
+        (λ (a : z ≤ k). ap (λ x. x % p) (behind z k row a) ∙ h.2 (k - z) (omega arith) ∙ ap (λ x. x % p) (sym (sum_behind z k h.0 vs a)))
+        (cases_lt k z),
+  )
 
   -- a sum of such rows is 0 before the zeros end
   lowered_sum : (row : List ℕ) → IsWeighted p (z + w) (map (behind_zeros z) vs) (λ k. get_or row k 0) → IsWeighted p w vs (λ k. get_or (drop z row) k 0)
-  lowered_sum row h = (h.0, h.1 ∙ length-map vs (behind_zeros z), λ k l.
-      let at : z + k - z ≡ k = omega arith in
-      ap (λ x. x % p) (get_or-drop z row k 0) ∙ h.2 (z + k) (omega arith) ∙ ap (λ x. x % p) (sum_behind z (z + k) h.0 vs (omega arith) ∙ ap (weighted h.0 vs) at))
+  lowered_sum row h = (
+    h.0,
+    h.1 ∙ length-map vs (behind_zeros z),
+    λ k l.
+        let at : z + k - z ≡ k = omega arith in
+        ap (λ x. x % p) (get_or-drop z row k 0) ∙ h.2 (z + k) (omega arith) ∙ ap (λ x. x % p) (sum_behind z (z + k) h.0 vs (omega arith) ∙ ap (weighted h.0 vs) at),
+  )
 
   is_zero : (row : List ℕ) → IsRow p (z + w) row → IsWeighted p (z + w) (map (behind_zeros z) vs) (λ k. get_or row k 0) → (k : ℕ) → k < z → get_or row k 0 ≡ 0
   is_zero row f h k l =
@@ -72,8 +79,8 @@ zeros_small p z h i d l = let n : length {A = ℕ} (replicate z 0) ≡ z = lengt
 pub longer : (p z w wide : ℕ) (row : List ℕ) → 0 < p → wide ≡ z + w → IsRow p w row → IsRow p wide (behind_zeros z row)
 longer p z w wide row h e f = (
   (let a : length {A = ℕ} (behind_zeros z row) ≡ length {A = ℕ} (replicate z 0) + length row = length-append (replicate z 0) row in
-  let b : length {A = ℕ} (replicate z 0) ≡ z = length-replicate z 0 in
-  let l : length row ≡ w = f.0 in omega arith),
+      let b : length {A = ℕ} (replicate z 0) ≡ z = length-replicate z 0 in
+      let l : length row ≡ w = f.0 in omega arith),
   All-append (λ x. x < p) (replicate z 0) row (zeros_small p z h) f.1,
 )
 
@@ -88,6 +95,10 @@ shorter p z w wide row e f = (
 
 pub spanned_basis : (s : Subspace) → IsReduced s → IsSpannedBy s.prime s.width s.basis s
 spanned_basis s r = record { prime = refl; width = refl; members = λ row. ((λ h. h), λ h. h); reduced = r }
+
+-- a basis row is in its space
+pub own_row : (s : Subspace) → All (IsIn s) s.basis
+own_row s i d l = subst (IsIn s) (get_or_default s.basis i [] d l) (span_of s.prime s.width s.basis (get_or s.basis i []) (member_in s.prime s.width s.basis i l))
 
 pub fits_of : (s : Subspace) → IsReduced s → All (FitsIn s) s.basis
 fits_of s r = r.1.rows
@@ -115,7 +126,7 @@ joined_space p w vs old new e j r = there (subst (λ s. Joins s vs new) e j)
       width = i.width;
       members = λ row. (
         (λ h. span_of p w vs row (through p w vs new.basis (λ k. get_or row k 0) i.covered (weighted_of p w new.basis row (subst (λ x. InSpan (rows p x) new.basis row) i.width (subst (λ x. InSpan (rows x new.width) new.basis row) i.prime h))))),
-        λ h. subst (λ x. InSpan (rows x new.width) new.basis row) (sym i.prime) (subst (λ x. InSpan (rows p x) new.basis row) (sym i.width) (span_of p w new.basis row (through p w new.basis vs (λ k. get_or row k 0) i.covers (weighted_of p w vs row h))))
+        λ h. subst (λ x. InSpan (rows x new.width) new.basis row) (sym i.prime) (subst (λ x. InSpan (rows p x) new.basis row) (sym i.width) (span_of p w new.basis row (through p w new.basis vs (λ k. get_or row k 0) i.covers (weighted_of p w vs row h)))),
       );
       reduced = r;
     }

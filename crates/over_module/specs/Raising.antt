@@ -1,5 +1,5 @@
 -- Modules over another power of d.
-use Rattle.std.specs.Prelude.{◌≡◌, ◌↔◌, ℕ, ◌+◌, List, ◌++◌, drop, replicate}
+use Rattle.std.specs.Prelude.{◌≡◌, ◌↔◌, ℕ, ◌+◌, List, ◌++◌, length, drop, replicate}
 use Rattle.comm_ring.specs.Modules.{InSpan}
 use Rattle.comm_ring.specs.Rows.{rows}
 use Rattle.polys.specs.Curve.{data_of}
@@ -27,14 +27,16 @@ pub record IsRaised (zeros : ℕ) (low high : Subspace) : Type 0 where
   pub prime : high.prime ≡ low.prime
   pub width : high.width ≡ zeros + low.width
   pub up : (row : List ℕ) → FitsIn low row → IsIn low row → IsIn high (behind_zeros zeros row)
-  pub down : (row : List ℕ) → FitsIn high row → IsIn high row → (rest : List ℕ) × (row ≡ behind_zeros zeros rest) × IsIn low rest
+  pub down : (row : List ℕ) → FitsIn high row → IsIn high row
+      → (rest : List ℕ) × (row ≡ behind_zeros zeros rest) × IsIn low rest
 
--- the same fractions over d^K
+-- the same fractions over d^K, by as many rows
 pub record IsAtPower (o : OverData) (K : ℕ) (q : OverData) : Type 0 where
   pub curve : q.curve ≡ o.curve
   pub dimension : q.dimension ≡ o.dimension
   pub power : q.power ≡ K
   pub same : HaveSameFractions o q
+  pub rank : length q.rows.basis ≡ length o.rows.basis
 
 -- the fractions of q are in o
 abbrev pub HoldsFractions : OverData → OverData → Type 0

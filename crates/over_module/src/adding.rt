@@ -10,22 +10,23 @@ use lists::NoMemory;
 use std::sync::Arc;
 
 impl Over {
-    /// The sums of a fraction of this module and one of the other, over the greater of the two powers. The modules are of one
-    /// curve.
+    /// The sums of a fraction of this module and one of the other, over the greater of the two powers. The modules are of
+    /// one curve.
     ///
     /// It takes a copy of each over that power, and adds the rows of the one to those of the other.
     ///
     /// # Errors
     /// Want of memory.
     ///
-    /// Böhm, Decker, Laplagne, Pfister, Steenpass and Steidel, Parallel Algorithms for Normalization: the normalization is the
-    /// sum of the local contributions.
+    /// Böhm, Decker, Laplagne, Pfister, Steenpass and Steidel, Parallel Algorithms for Normalization: the normalization is
+    /// the sum of the local contributions.
     pub fn sum(&self, other: &Over) -> Result<Over, NoMemory>
         requires { other.now.curve ≡ self.now.curve }
         ensures curve { IfOk result (λ o. o.curve ≡ self.now.curve) }
         ensures power { IfOk result (λ o. o.power ≡ max self.now.power other.now.power) }
         ensures fractions { IfOk result
-            (λ o. (f : Fraction) → IsFraction (data_of self.now.curve) f → InOver o f ↔ IsSumOfTwo (data_of self.now.curve) (InOver self.now) (InOver other.now) f) }
+            (λ o. (f : Fraction) → IsFraction (data_of self.now.curve) f
+            → InOver o f ↔ IsSumOfTwo (data_of self.now.curve) (InOver self.now) (InOver other.now) f) }
     {
         let _known = self.rows();
         let power = self.power().max(other.power());

@@ -27,10 +27,30 @@ fn has_all(space: &Space, rows: &[List<u32>]) -> Result<bool, NoMemory>
 }
 
 impl Over {
-    /// Whether the polynomial over d^k is in the module. The digits are those of its curve, as deep as k and as its power.
+    // Whether the polynomial over d^k is in the module, where k is at most its power.
+    fn has(&self, digits: &Digits, f: &Poly, k: u32) -> Result<bool, NoMemory>
+        requires curve { digits.now.curve ≡ self.now.curve }
+        requires depth { k ≤ digits.now.depth }
+        requires power { k ≤ self.now.power }
+        requires poly { IsOver self.now.curve.prime self.now.curve.variables f.now }
+        ensures { IfOk result (λ yes. IsTrue yes ↔ InOver self.now (over f.now.terms k)) }
+    {
+        let space = self.rows();
+        let _basis = digits.basis();
+        let corners = digits.dimension() as usize;
+        let row = digits.digits_of(f)?;
+        let first = &row.as_slice()[..corners * k as usize];
+        let zeros = corners * (self.power() - k) as usize;
+        let moved = behind(digits.allocator(), zeros, first)?;
+        let found = space.contains(moved.as_slice())?;
+        Ok(found)
+    }
+
+    /// Whether the polynomial over d^k is in the module. The digits are those of its curve, as deep as k and as its
+    /// power.
     ///
-    /// It takes the digits of the polynomial, and where k is above the power the module's rows over d^k; then one reduction of a
-    /// row.
+    /// It takes the digits of the polynomial and one reduction of a row; where k is above the power it takes a copy of the
+    /// rows over d^k.
     ///
     /// # Errors
     /// Want of memory.
@@ -40,16 +60,12 @@ impl Over {
         requires poly { IsOver self.now.curve.prime self.now.curve.variables f.now }
         ensures { IfOk result (λ yes. IsTrue yes ↔ InOver self.now (over f.now.terms k)) }
     {
-        let _known = self.rows();
-        let corners = digits.basis().len();
-        let power = self.power().max(k);
-        let raised = self.raised(power)?;
-        let row = digits.digits_of(f)?;
-        let first = &row.as_slice()[..corners * k as usize];
-        let zeros = corners * (power - k) as usize;
-        let moved = behind(digits.allocator(), zeros, first)?;
-        let space = raised.rows();
-        let found = space.contains(moved.as_slice())?;
+        if k <= self.power() {
+            let found = self.has(digits, f, k)?;
+            return Ok(found);
+        }
+        let raised = self.raised(k)?;
+        let found = raised.has(digits, f, k)?;
         Ok(found)
     }
 

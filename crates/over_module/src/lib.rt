@@ -6,6 +6,7 @@ mod adding;
 mod base;
 mod comparing;
 mod done;
+mod lowering;
 mod over;
 mod plain;
 mod quotient;

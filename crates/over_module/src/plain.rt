@@ -11,7 +11,8 @@ use std::alloc::Global;
 use std::sync::Arc;
 
 impl Over {
-    /// A itself, with the power 0 and no rows. The curve is fit, and `n` is its dimension modulo I and d. It takes no memory.
+    /// A itself, with the power 0 and no rows. The curve is fit, and `n` is its dimension modulo I and d. It takes no
+    /// memory.
     ///
     /// Greuel and Pfister, section on normalization: the first ring of the chain.
     pub fn plain(alloc: Global, curve: Arc<Curve>, n: u32) -> Over
@@ -20,7 +21,8 @@ impl Over {
         ensures curve { result.curve ≡ curve.value }
         ensures dimension { result.dimension ≡ n }
         ensures power { result.power ≡ 0 }
-        ensures fractions { (f : Fraction) → IsFraction (data_of curve.value) f → InOver result f ↔ InA (data_of curve.value) f }
+        ensures fractions { (f : Fraction) → IsFraction (data_of curve.value) f
+            → InOver result f ↔ InA (data_of curve.value) f }
     {
         let prime = curve.prime;
         let _p = prime.get();

@@ -27,11 +27,7 @@ pub(crate) fn behind(alloc: Global, zeros: usize, row: &[u32]) -> Result<List<u3
 }
 
 // The rows, each behind so many zeros.
-fn all_behind(
-    alloc: Global,
-    zeros: usize,
-    rows: &[List<u32>],
-) -> Result<List<List<u32>>, NoMemory>
+fn all_behind(alloc: Global, zeros: usize, rows: &[List<u32>]) -> Result<List<List<u32>>, NoMemory>
     ensures { IfOk result (λ made. made ≡ map (behind_zeros zeros) rows.now) }
 {
     let mut made = List::new(alloc);

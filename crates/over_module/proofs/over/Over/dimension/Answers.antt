@@ -1,4 +1,4 @@
-use Rattle.std.proofs.Common.{◌≡◌, sym, subst, length}
+use Rattle.std.proofs.Common.{sym, subst}
 use Rattle.polys.specs.Curve.{data_of}
 use Rattle.over_laws.specs.Over.{InOver, HasBasis}
 use Rattle.over_laws.proofs.Rows.{rows_law}

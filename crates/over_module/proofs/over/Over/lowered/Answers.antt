@@ -1,8 +1,8 @@
 use Rattle.std.proofs.Common.{◌≡◌, ◌-◌, ◌*◌, map, drop, ap, ap₂, ◌∙◌, subst, sym}
 use Rattle.row_space.specs.Subspace.{IsReduced}
 use Rattle.over_laws.specs.Over.{HasRows}
-use Rattle.over_module.specs.Raising.{IsAtPower, IsSpannedBy}
-use Rattle.over_module.proofs.Moved.{all_moved, spanned_moved, rows_moved, power_moved, lowered_fit, less_rows, less_same}
+use Rattle.over_module.specs.Raising.{IsAtPower}
+use Rattle.over_module.proofs.Moved.{all_moved, spanned_moved, rows_moved, power_moved, lowered_fit, less_rows, less_same, less_rank}
 use Rattle.over_module.proofs.over.Over.lowered.Goals as goal
 use Rattle.over_module.proofs.over.Over.lowered.Goals.{After-as_slice}
 
@@ -46,4 +46,5 @@ returns c =
     subst (IsAtPower o (o.power - c.args.blocks)) (sym c.of_rows.ensures)
     (subst (λ k. IsAtPower o (o.power - c.args.blocks) (record { curve = c.in_ok-try_clone.field-0.value; dimension = c.corners.result; power = k - c.args.blocks; rows = c.in_ok-space.space })) (sym c.power.ensures)
     (power_moved o (o.power - c.args.blocks) c.in_ok-space.space c.in_ok-try_clone.field-0.value c.corners.result (c.in_ok-try_clone.ensures ∙ c.curve-curve.ensures) c.corners.ensures
-    (less_same o c.rows.ensures.known (reduced w) c.args.blocks c.requires.power c.requires.zeros c.in_ok-space.space s)))
+    (less_same o c.rows.ensures.known (reduced w) c.args.blocks c.requires.power c.requires.zeros c.in_ok-space.space s)
+    (less_rank o c.rows.ensures.known (reduced w) c.args.blocks c.requires.power c.requires.zeros c.in_ok-space.space s)))

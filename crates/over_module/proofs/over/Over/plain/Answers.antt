@@ -1,4 +1,4 @@
-use Rattle.std.proofs.Common.{◌≡◌, ◌↔◌, [], ap, ◌∙◌, subst, sym, refl}
+use Rattle.std.proofs.Common.{◌≡◌, ◌↔◌, ap, ◌∙◌, subst, sym, refl}
 use Rattle.prime_field.specs.Primes.{IsPrime}
 use Rattle.polys.specs.Curve.{data_of}
 use Rattle.curve_model.specs.Fraction.{Fraction, IsFraction, InA}

@@ -1,8 +1,7 @@
 use Rattle.std.proofs.Common.{◌≡◌, ◌-◌, ◌*◌, map, ap, ap₂, ◌∙◌, subst, sym}
 use Rattle.row_space.specs.Subspace.{IsReduced}
-use Rattle.over_laws.specs.Over.{HasRows}
-use Rattle.over_module.specs.Raising.{behind_zeros, IsAtPower, IsSpannedBy}
-use Rattle.over_module.proofs.Moved.{all_moved, spanned_moved, rows_moved, power_moved, raised_fit, made_rows, made_same}
+use Rattle.over_module.specs.Raising.{behind_zeros, IsAtPower}
+use Rattle.over_module.proofs.Moved.{all_moved, spanned_moved, rows_moved, power_moved, raised_fit, made_rows, made_same, made_rank}
 use Rattle.over_module.proofs.over.Over.raised.Goals as goal
 use Rattle.over_module.proofs.over.Over.raised.Goals.{After-as_slice}
 
@@ -45,4 +44,5 @@ returns c =
     c.in_ok-space.space (prime w) (width w) (made w) c.in_ok-space.ensures in
     subst (IsAtPower o c.args.power) (sym c.of_rows.ensures)
     (power_moved o c.args.power c.in_ok-space.space c.in_ok-try_clone.field-0.value c.corners.result (c.in_ok-try_clone.ensures ∙ c.curve-curve.ensures) c.corners.ensures
-    (made_same o c.rows.ensures.known (reduced w) c.args.power c.requires c.in_ok-space.space s))
+    (made_same o c.rows.ensures.known (reduced w) c.args.power c.requires c.in_ok-space.space s)
+    (made_rank o c.rows.ensures.known (reduced w) c.args.power c.requires c.in_ok-space.space s))

@@ -1,4 +1,4 @@
-use Rattle.std.proofs.Common.{◌≡◌, ◌↔◌, ℕ, List, ap, ap₂, ◌∙◌, subst, sym}
+use Rattle.std.proofs.Common.{◌≡◌, ◌↔◌, ℕ, List, ap, ◌∙◌, subst, sym}
 use Rattle.polys.specs.declared.curve.Curve.{Curve}
 use Rattle.polys.specs.Curve.{data_of}
 use Rattle.curve_model.specs.Fraction.{Fraction, IsFraction}
