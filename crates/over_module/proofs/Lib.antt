@@ -20,3 +20,4 @@ mod Fronts
 mod Times
 mod ProductLists
 mod Numerators
+mod Divided

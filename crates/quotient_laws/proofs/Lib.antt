@@ -1,3 +1,5 @@
+-- for the crates above: rows of digits of the numerators of a module
+pub mod QuotientRows
 -- for the laws here alone
 mod Constants
 mod Subquotients
@@ -6,6 +8,5 @@ mod Quotients
 mod Nilpotents
 mod Products
 mod ProductRows
-mod QuotientRows
 mod Transport
 mod OverQuotients

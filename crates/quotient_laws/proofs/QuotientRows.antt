@@ -84,7 +84,7 @@ module _ (o : OverData) (h : HasRows o) (ms : List Monomial) (corners : AreCorne
   first f row hf a = blocks.truncated k 1 f row hf (let e : suc k ≡ k + 1 = omega arith in subst (λ t. AreDigits A ms t f row) e a)
 
   -- a polynomial with such a row is a numerator of the module
-  member_over : (v : List Term) (row : List ℕ) → Good v → AreDigits A ms (suc k) v row → IsMemberRow o ms row → InOver o (over v k)
+  pub member_over : (v : List Term) (row : List ℕ) → Good v → AreDigits A ms (suc k) v row → IsMemberRow o ms row → InOver o (over v k)
   member_over v row hv a m = record {
     corners = ms;
     known = corners;
