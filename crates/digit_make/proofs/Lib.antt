@@ -2,6 +2,7 @@ mod Expansion
 mod Settings
 mod Steps
 mod Found
+mod Playing
 mod Leads
 mod Made
 mod Deeper

@@ -36,6 +36,12 @@ IsPlaceIn corners border outer (Corner i) = i < length corners
 IsPlaceIn corners border outer (Border j) = j < length border
 IsPlaceIn corners border outer (Outer j) = j < length outer
 
+-- the place is there, and is no corner's
+abbrev pub IsOutsidePlace : (border outer : List Monomial) → Place → Type 0
+IsOutsidePlace border outer (Corner i) = ⊥
+IsOutsidePlace border outer (Border j) = j < length border
+IsOutsidePlace border outer (Outer j) = j < length outer
+
 -- the terms that shares stand for
 abbrev pub terms_in : (corners border outer : List Monomial) → List Share → List Term
 terms_in corners border outer shares = map (λ s. record { coeff = s.coeff; mono = monomial_in corners border outer s.place }) shares
@@ -56,7 +62,7 @@ abbrev pub IsRuleIn : CurveData → (corners border outer : List Monomial) → M
 IsRuleIn A corners border outer m (Lead tail lift) =
     AreSharesIn A.prime corners border outer tail × AreSharesIn A.prime corners border outer lift × IsLeadSumIn A corners border outer m tail lift
 IsRuleIn A corners border outer m (Multiple v place) =
-    (v < A.variables) × IsPlaceIn corners border outer place × (times (monomial_in corners border outer place) (variable v) ≡ m)
+    (v < A.variables) × IsOutsidePlace border outer place × (times (monomial_in corners border outer place) (variable v) ≡ m)
 
 -- w is the corner or the monomial of the border with this number
 abbrev pub IsFoundIn : (corners border : List Monomial) → Monomial → Product → Type 0

@@ -1,16 +1,18 @@
 // How the digits of each monomial outside the corners come from those of others.
-ghost use Rattle.std.specs.Prelude.{◌≡◌, ◌+◌, ◌*◌, ◌<◌, ◌≤◌, length, All, IfOk, OnOk, IfSome};
-ghost use Rattle.monomials.specs.Mono.{times, variable};
+ghost use Rattle.std.specs.Prelude.{◌≡◌, ◌+◌, ◌*◌, ◌<◌, ◌≤◌, List, length, All, Contains, IfNone, IfOk, OnOk, IfSome};
+ghost use Rattle.monomials.specs.Mono.{Monomial, times, variable};
 ghost use Rattle.polys.specs.Curve.{IsOver};
 ghost use Rattle.polys.specs.Terms.{IsAffine};
 ghost use Rattle.lift_colon.specs.Lifted.{IsLift, IsLifted};
 ghost use Rattle.digit_make.specs.declared.plan.Place.{Place};
 ghost use Rattle.digit_make.specs.declared.plan.Rule.TheVariants.{Multiple};
 ghost use Rattle.digit_make.specs.Making.{AreLifts, curve_of_lifted};
-ghost use Rattle.digit_make.specs.Planned.{monomial_in, IsPlaceIn, terms_in, AreSharesIn, IsRuleIn, AreRulesIn, IsFoundIn, AreFirstProducts};
+ghost use Rattle.digit_make.specs.Playing.{AreClosed, AreRising, IsBorder};
+ghost use Rattle.standard_monomials.specs.Standard.{IsRising};
+ghost use Rattle.digit_make.specs.Planned.{monomial_in, IsPlaceIn, IsOutsidePlace, terms_in, AreSharesIn, IsRuleIn, AreRulesIn, IsFoundIn, AreFirstProducts};
 
 use crate::plan::{Place, Rule, Share};
-use crate::planning::{find, multiple, not_found, quotient};
+use crate::planning::{find, multiple, quotient};
 use digit_space::Product;
 use lift_colon::Lifted;
 use lists::{List, NoMemory};
@@ -30,9 +32,6 @@ pub struct Play {
     pub outer: List<Mono>,
 }
 
-/// A bound for the numbers of corners and of monomials of the border.
-const MOST_PLACES: usize = 65_536;
-
 // What each product of a variable and a corner is.
 pub(crate) fn products_of(
     alloc: Global,
@@ -40,13 +39,15 @@ pub(crate) fn products_of(
     corners: &[Mono],
     border: &[Mono],
 ) -> Result<List<Product>, NoMemory>
-    requires { variables ≤ 6 }
+    requires variables { variables ≤ 6 }
+    requires corners { AreClosed variables corners.now }
+    requires border { IsBorder variables corners.now border.now }
     ensures count { IfOk result (λ products. length products ≡ variables * length corners.now) }
     ensures each { IfOk result (AreFirstProducts corners.now border.now) }
 {
     let mut products = List::new(alloc);
     for v in 0..variables {
-        push_products(v, corners, border, &mut products)?;
+        push_products(v, variables, corners, border, &mut products)?;
     }
     Ok(products)
 }
@@ -54,48 +55,47 @@ pub(crate) fn products_of(
 // Appends the products of the variable `v` with the corners.
 fn push_products(
     v: u32,
+    variables: u32,
     corners: &[Mono],
     border: &[Mono],
     products: &mut List<Product>,
 ) -> Result<(), NoMemory>
-    requires v { v < 6 }
+    requires v { (v < variables) × (variables ≤ 6) }
+    requires corners { AreClosed variables corners.now }
+    requires border { IsBorder variables corners.now border.now }
     requires count { length products.old ≡ v * length corners.now }
     requires each { AreFirstProducts corners.now border.now products.old }
     ensures count { OnOk result (length products.new ≡ (v + 1) * length corners.now) }
     ensures each { OnOk result (AreFirstProducts corners.now border.now products.new) }
 {
+    let _variables = variables;
     for i in 0..corners.len() {
-        let m = multiple(&corners[i], v)?;
-        let product = product_of(corners, border, &m)?;
-        products.push(product)?;
+        let m = multiple(&corners[i], v);
+        products.push(product_of(corners, border, &m))?;
     }
     Ok(())
 }
 
 // The corner or the monomial of the border that the monomial is.
-fn product_of(corners: &[Mono], border: &[Mono], m: &Mono) -> Result<Product, NoMemory>
-    ensures { IfOk result (IsFoundIn corners.now border.now m.now) }
+fn product_of(corners: &[Mono], border: &[Mono], m: &Mono) -> Product
+    requires corners { IsRising corners.now × (length corners.now ≤ 256) }
+    requires border { IsRising border.now × (length border.now ≤ 1536) }
+    requires inside { (Contains corners.now m.now → ⊥) → Contains border.now m.now }
+    ensures { IsFoundIn corners.now border.now m.now result }
 {
-    if let Some(i) = find(corners, m) {
-        if i < MOST_PLACES {
-            return Ok(Product::Corner(i as u32));
-        }
-    }
-    match find(border, m) {
-        Some(j) => {
-            if j < MOST_PLACES {
-                Ok(Product::Border(j as u32))
-            } else {
-                Err(not_found())
-            }
-        }
-        None => Err(not_found()),
+    match find(corners, m) {
+        Some(i) => Product::Corner(i as u32),
+        None => match find(border, m) {
+            Some(j) => Product::Border(j as u32),
+            None => unreachable!(),
+        },
     }
 }
 
 // The place of the monomial outside the corners, within the border if that is asked.
 fn outside_place(play: &Play, inside: bool, m: &Mono) -> Option<Place>
-    ensures { IfSome result (λ place. IsPlaceIn play.now.corners play.now.border play.now.outer place × (m.now ≡ monomial_in play.now.corners play.now.border play.now.outer place)) }
+    requires { AreRising play.now.corners play.now.border play.now.outer }
+    ensures { IfSome result (λ place. IsOutsidePlace play.now.border play.now.outer place × (m.now ≡ monomial_in play.now.corners play.now.border play.now.outer place)) }
 {
     if let Some(j) = find(play.border.as_slice(), m) {
         return Some(Place::Border(j));
@@ -111,16 +111,21 @@ fn outside_place(play: &Play, inside: bool, m: &Mono) -> Option<Place>
 
 // The place of the monomial.
 fn place_of(play: &Play, m: &Mono) -> Option<Place>
+    requires { AreRising play.now.corners play.now.border play.now.outer }
     ensures { IfSome result (λ place. IsPlaceIn play.now.corners play.now.border play.now.outer place × (m.now ≡ monomial_in play.now.corners play.now.border play.now.outer place)) }
 {
-    match find(play.corners.as_slice(), m) {
-        Some(i) => Some(Place::Corner(i)),
-        None => outside_place(play, false, m),
+    if let Some(i) = find(play.corners.as_slice(), m) {
+        return Some(Place::Corner(i));
+    }
+    match outside_place(play, false, m) {
+        Some(place) => Some(place),
+        None => None,
     }
 }
 
 // The terms of the polynomial by their places.
 fn shares_of(alloc: Global, play: &Play, f: &Poly) -> Result<List<Share>, NoMemory>
+    requires { AreRising play.now.corners play.now.border play.now.outer }
     ensures shares { IfOk result (AreSharesIn f.now.prime play.now.corners play.now.border play.now.outer) }
     ensures terms { IfOk result (λ shares. terms_in play.now.corners play.now.border play.now.outer shares ≡ f.now.terms) }
 {
@@ -133,7 +138,7 @@ fn shares_of(alloc: Global, play: &Play, f: &Poly) -> Result<List<Share>, NoMemo
                 coeff: term.coeff,
                 place,
             })?,
-            None => return Err(not_found()),
+            None => return Err(NoMemory),
         }
     }
     Ok(shares)
@@ -153,6 +158,7 @@ fn lead_rule(
     requires over { IsOver lifted.now.prime lifted.now.variables g.now }
     requires prime { lift.now.prime ≡ lifted.now.prime }
     requires lift { IsLift lifted.now g.now.terms lift.now.terms }
+    requires rising { AreRising play.now.corners play.now.border play.now.outer }
     ensures { IfOk result (IsRuleIn (curve_of_lifted lifted.now) play.now.corners play.now.border play.now.outer m.now) }
 {
     let prime = lifted.prime();
@@ -181,8 +187,9 @@ fn with_lead(basis: &[Poly], m: &Mono) -> Option<usize>
 
 // The rule by the variable, if the quotient has a place outside the corners.
 fn rule_by(play: &Play, inside: bool, m: &Mono, v: u32) -> Option<Rule>
-    requires { v < 6 }
-    ensures { IfSome result (λ rule. (place : Place) × (rule ≡ Multiple v place) × IsPlaceIn play.now.corners play.now.border play.now.outer place × (times (monomial_in play.now.corners play.now.border play.now.outer place) (variable v) ≡ m.now)) }
+    requires v { v < 6 }
+    requires rising { AreRising play.now.corners play.now.border play.now.outer }
+    ensures { IfSome result (λ rule. (place : Place) × (rule ≡ Multiple v place) × IsOutsidePlace play.now.border play.now.outer place × (times (monomial_in play.now.corners play.now.border play.now.outer place) (variable v) ≡ m.now)) }
 {
     match quotient(m, v) {
         None => None,
@@ -195,7 +202,8 @@ fn rule_by(play: &Play, inside: bool, m: &Mono, v: u32) -> Option<Rule>
 
 // The rule by the first variable of the list whose quotient has a place outside the corners.
 fn multiple_rule(lifted: &Lifted, play: &Play, inside: bool, m: &Mono) -> Result<Rule, NoMemory>
-    requires { lifted.now.variables ≤ 6 }
+    requires variables { lifted.now.variables ≤ 6 }
+    requires rising { AreRising play.now.corners play.now.border play.now.outer }
     ensures { IfOk result (IsRuleIn (curve_of_lifted lifted.now) play.now.corners play.now.border play.now.outer m.now) }
 {
     let variables = lifted.variables();
@@ -206,7 +214,7 @@ fn multiple_rule(lifted: &Lifted, play: &Play, inside: bool, m: &Mono) -> Result
             }
         }
     }
-    Err(not_found())
+    Err(NoMemory)
 }
 
 // The rule of the monomial: a lead has that of its polynomial in the basis, and another one comes from a quotient by a variable.
@@ -219,6 +227,7 @@ fn rule_of(
 ) -> Result<Rule, NoMemory>
     requires lifts { AreLifts lifted.now play.now.lifts }
     requires affine { IsAffine lifted.now.variables m.now }
+    requires rising { AreRising play.now.corners play.now.border play.now.outer }
     ensures { IfOk result (IsRuleIn (curve_of_lifted lifted.now) play.now.corners play.now.border play.now.outer m.now) }
 {
     let basis = lifted.sum_basis();
@@ -238,6 +247,7 @@ pub(crate) fn rules_of(
 ) -> Result<List<Rule>, NoMemory>
     requires lifts { AreLifts lifted.now play.now.lifts }
     requires affine { All (IsAffine lifted.now.variables) monomials.now }
+    requires rising { AreRising play.now.corners play.now.border play.now.outer }
     ensures { IfOk result (AreRulesIn (curve_of_lifted lifted.now) play.now.corners play.now.border play.now.outer monomials.now) }
 {
     let mut rules = List::new(alloc);

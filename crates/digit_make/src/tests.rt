@@ -3,11 +3,10 @@ ghost use Rattle.std.specs.Prelude.{◌≡◌, ◌≤◌, ℕ, IfOk, IsTrue};
 ghost use Rattle.polys.specs.Curve.{Fit, IsOver};
 ghost use Rattle.polys.specs.Ideal.{InIdeal};
 ghost use Rattle.polys.specs.Poly.{terms_of};
-ghost use Rattle.polys.specs.Terms.{IsPoly, one};
+ghost use Rattle.polys.specs.Terms.{IsAffine, IsPoly, one};
 ghost use Rattle.lift_colon.specs.Lifted.{HasDimension};
 ghost use Rattle.digit_make.specs.Making.{IsLiftedOf};
 
-use crate::planning::is_affine;
 use crate::{extended, make};
 use digit_space::Digits;
 use lift_colon::Lifted;
@@ -55,6 +54,23 @@ fn sum_of(alloc: Global, p: Prime, rows: Rows) -> Result<Poly, Fail>
         sum = sum.add(&Poly::from_term(alloc, p, term)?)?;
     }
     Ok(sum)
+}
+
+// Whether the monomial is one in the first variables.
+fn is_affine(variables: u32, m: &Mono) -> bool
+    requires { variables ≤ 6 }
+    ensures { IsTrue result → IsAffine variables m.now }
+{
+    let _degree = m.degree();
+    if m.hom() != 0 || m.component() != 0 {
+        return false;
+    }
+    for v in variables..6 {
+        if m.exponent(v) != 0 {
+            return false;
+        }
+    }
+    true
 }
 
 // Whether this is a polynomial in x and y.
