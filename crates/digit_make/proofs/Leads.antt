@@ -42,13 +42,13 @@ module _ (l : LiftedData) (h : IsLifted l) where
   positive : 0 < l.prime
   positive = positive_of_prime l.prime h.prime
 
-  sum_polys : All (IsPoly l.prime l.variables) (terms_of l.sum)
+  pub sum_polys : All (IsPoly l.prime l.variables) (terms_of l.sum)
   sum_polys = terms_poly l.prime l.variables l.sum h.sum_over
 
   gens : All (IsPoly l.prime l.variables) (l.denominator.terms ∷ terms_of l.ideal)
   gens = All-cons (IsPoly l.prime l.variables) l.denominator.terms (terms_of l.ideal) h.denominator.poly (terms_poly l.prime l.variables l.ideal h.ideal_over)
 
-  standard : IsStandardBasis l.prime l.variables (l.denominator.terms ∷ terms_of l.ideal) (terms_of l.sum)
+  pub standard : IsStandardBasis l.prime l.variables (l.denominator.terms ∷ terms_of l.ideal) (terms_of l.sum)
   standard =
       let base = reduced_law l.prime l.variables (terms_of l.sum) h.prime h.sum.reduced in record {
         members = All-weaker (Contains (terms_of l.sum)) (InIdeal l.prime l.variables (l.denominator.terms ∷ terms_of l.ideal))

@@ -3,6 +3,7 @@ mod Settings
 mod Steps
 mod Found
 mod Playing
+mod Parents
 mod Leads
 mod Made
 mod Deeper

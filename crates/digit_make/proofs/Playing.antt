@@ -277,7 +277,7 @@ variables_more v i order a l = record {
 
 -- ---- quotients by variables
 
-only_left : (n : ℕ) (a b : List ℕ) → OnlyFirst n (plus a b) → length a ≡ length b → OnlyFirst n a
+pub only_left : (n : ℕ) (a b : List ℕ) → OnlyFirst n (plus a b) → length a ≡ length b → OnlyFirst n a
 only_left zero [] b h l = tt
 only_left (suc n) [] b h l = tt
 only_left n (x ∷ a) [] h l = absurd (omega arith)
@@ -335,7 +335,7 @@ pub outer_none : (n : ℕ) (border : List Monomial) → IsOuter n border []
 outer_none n border = record { rising = rising_none; affine = λ k d l. absurd (omega arith); parents = λ w c. absurd (contains_none w c) }
 
 parent_kept : (n : ℕ) (border mid new : List Monomial) (w : Monomial) → ((u : Monomial) → Contains mid u → Contains new u) → HasParent n border mid w → HasParent n border new w
-parent_kept n border mid new w k p = record { rest = p.rest; factor = p.factor; among = p.among; product = p.product; outside = go p.outside }
+parent_kept n border mid new w k p = record { rest = p.rest; factor = p.factor; among = p.among; product = p.product; seven = p.seven; outside = go p.outside }
   where
     go : Contains border p.rest ⊎ Contains mid p.rest → Contains border p.rest ⊎ Contains new p.rest
     go (inl c) = inl c
@@ -366,7 +366,7 @@ outer_more n corners border mid new m w b a o q p none nor g = record {
 
     parent : (u : Monomial) → Contains mid u ⊎ (m ≡ u) → HasParent n border new u
     parent u (inl c) = parent_kept n border mid new u keep (o.parents u c)
-    parent u (inr e) = record { rest = w; factor = q.factor; among = q.among; product = q.product ∙ e; outside = outside p }
+    parent u (inr e) = record { rest = w; factor = q.factor; among = q.among; product = q.product ∙ e; seven = q.affine.seven; outside = outside p }
 
 pub each_mono_at : (P : Monomial → Type 0) (f : List Term) (i : ℕ) (t : Term) → i < length f → t ≡ get_or f i t → EachMono P f → P t.mono
 each_mono_at P [] i t l e h = absurd (omega arith)

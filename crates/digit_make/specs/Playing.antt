@@ -1,5 +1,5 @@
 -- The monomials in play: the corners, the border around them, and those further outside.
-use Rattle.std.specs.Prelude.{◌≡◌, ◌↔◌, ◌⊎◌, ℕ, ◌+◌, ◌*◌, ◌<◌, ◌≤◌, List, length, slice_index_or, All, Contains}
+use Rattle.std.specs.Prelude.{◌≡◌, ◌↔◌, ◌⊎◌, Bool, true, false, ℕ, ◌+◌, ◌*◌, ◌<◌, ◌≤◌, List, [], ◌∷◌, length, slice_index_or, All, Contains}
 use Rattle.monomials.specs.declared.mono.TheConstants.{MAX_DEGREE}
 use Rattle.monomials.specs.Mono.{Monomial, unit, times, total_degree, variable}
 use Rattle.polys.specs.declared.term.Term.{Term}
@@ -61,6 +61,7 @@ pub record HasParent (n : ℕ) (border outer : List Monomial) (w : Monomial) : T
   pub factor : ℕ
   pub among : factor < n
   pub product : times rest (variable factor) ≡ w
+  pub seven : length rest.exponents ≡ 7
   pub outside : Contains border rest ⊎ Contains outer rest
 
 -- monomials outside the corners, each the product of a variable and another one or one of the border
@@ -82,3 +83,25 @@ IsInPlay corners border outer m = Contains corners m ⊎ (Contains border m ⊎ 
 -- each monomial of the polynomial is
 abbrev pub IsCovered : (corners border outer : List Monomial) → List Term → Type 0
 IsCovered corners border outer f = EachMono (IsInPlay corners border outer) f
+
+-- the polynomial has this monomial as its lead
+abbrev pub HasLead : List Term → Monomial → Type 0
+HasLead [] m = ⊥
+HasLead (t ∷ f) m = t.mono ≡ m
+
+-- what stands outside the corners and may be used: the border alone, or the border and the outer monomials
+abbrev pub seen : Bool → List Monomial → List Monomial
+seen true outer = []
+seen false outer = outer
+
+-- the border, or the outer monomials
+abbrev pub chosen : Bool → (border outer : List Monomial) → List Monomial
+chosen true border outer = border
+chosen false border outer = outer
+
+-- m is the product of the variable v and a monomial of the lists
+pub record HasQuotientIn (v : ℕ) (border outer : List Monomial) (m : Monomial) : Type 0 where
+  pub rest : Monomial
+  pub product : times rest (variable v) ≡ m
+  pub seven : length rest.exponents ≡ 7
+  pub outside : Contains border rest ⊎ Contains outer rest

@@ -3,9 +3,9 @@ ghost use Rattle.std.specs.Prelude.{◌≡◌, ◌++◌, ◌*◌, ◌-◌, ◌<�
 ghost use Rattle.polys.specs.Curve.{Fit, data_of};
 ghost use Rattle.polys.specs.Terms.{IsAffine};
 ghost use Rattle.digit_laws.specs.Digits.{AreCornersOf};
-ghost use Rattle.digit_make.specs.Making.{AreLifts, IsLiftedOf, AreTrimmed, AreOuter};
-ghost use Rattle.digit_make.specs.Planned.{IsPlan, AreRowsOf};
-ghost use Rattle.digit_make.specs.Playing.{AreClosed, IsBorder, IsOuter};
+ghost use Rattle.digit_make.specs.Making.{IsLiftedOf, AreTrimmed, AreOuter, curve_of_lifted};
+ghost use Rattle.digit_make.specs.Planned.{IsPlan, IsPlay, AreRowsOf};
+ghost use Rattle.digit_make.specs.Playing.{AreClosed};
 
 use crate::growing::grow;
 use crate::plan::{Plan, Rows};
@@ -22,14 +22,12 @@ use std::sync::Arc;
 // The monomials in play for a curve with these corners.
 fn play_of(alloc: Global, lifted: &Lifted, corners: List<Mono>) -> Result<Play, NoMemory>
     requires variables { lifted.now.variables ≤ 6 }
+    requires corners { AreCornersOf (curve_of_lifted lifted.now) corners }
     requires closed { AreClosed lifted.now.variables corners }
     requires some { 0 < length corners }
+    ensures play { IfOk result (IsPlay lifted.now) }
     ensures corners { IfOk result (λ play. play.corners ≡ corners) }
-    ensures closed { IfOk result (λ play. AreClosed lifted.now.variables play.corners) }
-    ensures border { IfOk result (λ play. IsBorder lifted.now.variables play.corners play.border) }
     ensures affine { IfOk result (λ play. All (IsAffine lifted.now.variables) play.border) }
-    ensures lifts { IfOk result (λ play. AreLifts lifted.now play.lifts) }
-    ensures outer { IfOk result (λ play. IsOuter lifted.now.variables play.border play.outer) }
 {
     let variables = lifted.variables();
     let order = order_of(alloc, variables, corners.as_slice())?;

@@ -1,15 +1,16 @@
 // How the digits of each monomial outside the corners come from those of others.
-ghost use Rattle.std.specs.Prelude.{◌≡◌, ◌+◌, ◌*◌, ◌<◌, ◌≤◌, List, length, All, Contains, IfNone, IfOk, OnOk, IfSome};
-ghost use Rattle.monomials.specs.Mono.{Monomial, times, variable};
+ghost use Rattle.std.specs.Prelude.{◌≡◌, ◌⊎◌, ◌+◌, ◌*◌, ◌<◌, ◌≤◌, List, length, slice_index_or, All, Contains, IfNone, IfOk, OnOk, IfSome};
+ghost use Rattle.std.specs.Bool.{MatchBool};
+ghost use Rattle.monomials.specs.Mono.{times, variable};
+ghost use Rattle.polys.specs.declared.term.Term.{Term};
 ghost use Rattle.polys.specs.Curve.{IsOver};
-ghost use Rattle.polys.specs.Terms.{IsAffine};
+ghost use Rattle.polys.specs.Poly.{Polynomial, terms_of};
+ghost use Rattle.polys.specs.Terms.{IsAffine, sub};
 ghost use Rattle.lift_colon.specs.Lifted.{IsLift, IsLifted};
-ghost use Rattle.digit_make.specs.declared.plan.Place.{Place};
-ghost use Rattle.digit_make.specs.declared.plan.Rule.TheVariants.{Multiple};
-ghost use Rattle.digit_make.specs.Making.{AreLifts, curve_of_lifted};
-ghost use Rattle.digit_make.specs.Playing.{AreClosed, AreRising, IsBorder};
-ghost use Rattle.standard_monomials.specs.Standard.{IsRising};
-ghost use Rattle.digit_make.specs.Planned.{monomial_in, IsPlaceIn, IsOutsidePlace, terms_in, AreSharesIn, IsRuleIn, AreRulesIn, IsFoundIn, AreFirstProducts};
+ghost use Rattle.standard_monomials.specs.Standard.{IsRising, polynomial_of};
+ghost use Rattle.digit_make.specs.Making.{curve_of_lifted};
+ghost use Rattle.digit_make.specs.Playing.{AreClosed, AreRising, AreVariables, HasLead, HasParent, HasQuotientIn, IsBorder, IsCovered, IsInPlay, chosen, seen};
+ghost use Rattle.digit_make.specs.Planned.{monomial_in, IsMultipleRule, IsPlaceIn, IsOutsidePlace, IsPlay, terms_in, AreSharesIn, IsRuleIn, AreRulesIn, IsFoundIn, AreFirstProducts};
 
 use crate::plan::{Place, Rule, Share};
 use crate::planning::{find, multiple, quotient};
@@ -95,7 +96,8 @@ fn product_of(corners: &[Mono], border: &[Mono], m: &Mono) -> Product
 // The place of the monomial outside the corners, within the border if that is asked.
 fn outside_place(play: &Play, inside: bool, m: &Mono) -> Option<Place>
     requires { AreRising play.now.corners play.now.border play.now.outer }
-    ensures { IfSome result (λ place. IsOutsidePlace play.now.border play.now.outer place × (m.now ≡ monomial_in play.now.corners play.now.border play.now.outer place)) }
+    ensures some { IfSome result (λ place. IsOutsidePlace play.now.border play.now.outer place × (m.now ≡ monomial_in play.now.corners play.now.border play.now.outer place)) }
+    ensures none { IfNone result (Contains play.now.border m.now ⊎ Contains (seen inside play.now.outer) m.now → ⊥) }
 {
     if let Some(j) = find(play.border.as_slice(), m) {
         return Some(Place::Border(j));
@@ -109,23 +111,26 @@ fn outside_place(play: &Play, inside: bool, m: &Mono) -> Option<Place>
     }
 }
 
-// The place of the monomial.
-fn place_of(play: &Play, m: &Mono) -> Option<Place>
-    requires { AreRising play.now.corners play.now.border play.now.outer }
-    ensures { IfSome result (λ place. IsPlaceIn play.now.corners play.now.border play.now.outer place × (m.now ≡ monomial_in play.now.corners play.now.border play.now.outer place)) }
+// The place of the monomial, which has one.
+fn place_of(play: &Play, m: &Mono) -> Place
+    requires rising { AreRising play.now.corners play.now.border play.now.outer }
+    requires known { IsInPlay play.now.corners play.now.border play.now.outer m.now }
+    ensures place { IsPlaceIn play.now.corners play.now.border play.now.outer result }
+    ensures monomial { m.now ≡ monomial_in play.now.corners play.now.border play.now.outer result }
 {
     if let Some(i) = find(play.corners.as_slice(), m) {
-        return Some(Place::Corner(i));
+        return Place::Corner(i);
     }
     match outside_place(play, false, m) {
-        Some(place) => Some(place),
-        None => None,
+        Some(place) => place,
+        None => unreachable!(),
     }
 }
 
 // The terms of the polynomial by their places.
 fn shares_of(alloc: Global, play: &Play, f: &Poly) -> Result<List<Share>, NoMemory>
-    requires { AreRising play.now.corners play.now.border play.now.outer }
+    requires rising { AreRising play.now.corners play.now.border play.now.outer }
+    requires known { IsCovered play.now.corners play.now.border play.now.outer f.now.terms }
     ensures shares { IfOk result (AreSharesIn f.now.prime play.now.corners play.now.border play.now.outer) }
     ensures terms { IfOk result (λ shares. terms_in play.now.corners play.now.border play.now.outer shares ≡ f.now.terms) }
 {
@@ -133,13 +138,10 @@ fn shares_of(alloc: Global, play: &Play, f: &Poly) -> Result<List<Share>, NoMemo
     let mut shares = List::new(alloc);
     for i in 0..terms.len() {
         let term = terms[i];
-        match place_of(play, &term.mono) {
-            Some(place) => shares.push(Share {
-                coeff: term.coeff,
-                place,
-            })?,
-            None => return Err(NoMemory),
-        }
+        shares.push(Share {
+            coeff: term.coeff,
+            place: place_of(play, &term.mono),
+        })?;
     }
     Ok(shares)
 }
@@ -159,6 +161,8 @@ fn lead_rule(
     requires prime { lift.now.prime ≡ lifted.now.prime }
     requires lift { IsLift lifted.now g.now.terms lift.now.terms }
     requires rising { AreRising play.now.corners play.now.border play.now.outer }
+    requires tail { IsCovered play.now.corners play.now.border play.now.outer (sub lifted.now.prime (polynomial_of m.now) g.now.terms) }
+    requires covered { IsCovered play.now.corners play.now.border play.now.outer lift.now.terms }
     ensures { IfOk result (IsRuleIn (curve_of_lifted lifted.now) play.now.corners play.now.border play.now.outer m.now) }
 {
     let prime = lifted.prime();
@@ -171,15 +175,28 @@ fn lead_rule(
     Ok(Rule::Lead(tail_shares, lift_shares))
 }
 
+// Whether the polynomial has this lead.
+fn has_lead(f: &Poly, m: &Mono) -> bool
+    ensures { MatchBool result (HasLead f.now.terms m.now) (HasLead f.now.terms m.now → ⊥) }
+{
+    match f.lead() {
+        Some(t) => match Mono::cmp_dp(&t.mono, m) {
+            Ordering::Equal => true,
+            Ordering::Less => false,
+            Ordering::Greater => false,
+        },
+        None => false,
+    }
+}
+
 // The number of the polynomial with the lead `m`.
 fn with_lead(basis: &[Poly], m: &Mono) -> Option<usize>
-    ensures { IfSome result (λ i. i < length basis.now) }
+    ensures some { IfSome result (λ i. (i < length basis.now) × ((d : Polynomial) → HasLead (slice_index_or basis.now i d).terms m.now)) }
+    ensures none { IfNone result ((g : List Term) → Contains (terms_of basis.now) g → HasLead g m.now → ⊥) }
 {
     for i in 0..basis.len() {
-        if let Some(t) = basis[i].lead() {
-            if Mono::cmp_dp(&t.mono, m) == Ordering::Equal {
-                return Some(i);
-            }
+        if has_lead(&basis[i], m) {
+            return Some(i);
         }
     }
     None
@@ -189,7 +206,8 @@ fn with_lead(basis: &[Poly], m: &Mono) -> Option<usize>
 fn rule_by(play: &Play, inside: bool, m: &Mono, v: u32) -> Option<Rule>
     requires v { v < 6 }
     requires rising { AreRising play.now.corners play.now.border play.now.outer }
-    ensures { IfSome result (λ rule. (place : Place) × (rule ≡ Multiple v place) × IsOutsidePlace play.now.border play.now.outer place × (times (monomial_in play.now.corners play.now.border play.now.outer place) (variable v) ≡ m.now)) }
+    ensures some { IfSome result (IsMultipleRule v play.now.corners play.now.border play.now.outer m.now) }
+    ensures none { IfNone result (HasQuotientIn v play.now.border (seen inside play.now.outer) m.now → ⊥) }
 {
     match quotient(m, v) {
         None => None,
@@ -200,21 +218,22 @@ fn rule_by(play: &Play, inside: bool, m: &Mono, v: u32) -> Option<Rule>
     }
 }
 
-// The rule by the first variable of the list whose quotient has a place outside the corners.
-fn multiple_rule(lifted: &Lifted, play: &Play, inside: bool, m: &Mono) -> Result<Rule, NoMemory>
+// The rule by the first variable of the list whose quotient has a place outside the corners; there is one.
+fn multiple_rule(lifted: &Lifted, play: &Play, inside: bool, m: &Mono) -> Rule
     requires variables { lifted.now.variables ≤ 6 }
+    requires order { AreVariables lifted.now.variables play.now.order.items }
     requires rising { AreRising play.now.corners play.now.border play.now.outer }
-    ensures { IfOk result (IsRuleIn (curve_of_lifted lifted.now) play.now.corners play.now.border play.now.outer m.now) }
+    requires parent { HasParent lifted.now.variables play.now.border (seen inside play.now.outer) m.now }
+    ensures { IsRuleIn (curve_of_lifted lifted.now) play.now.corners play.now.border play.now.outer m.now result }
 {
-    let variables = lifted.variables();
-    for v in &play.order {
-        if *v < variables {
-            if let Some(rule) = rule_by(play, inside, m, *v) {
-                return Ok(rule);
-            }
+    let _variables = lifted.variables();
+    let order = play.order.as_slice();
+    for k in 0..order.len() {
+        if let Some(rule) = rule_by(play, inside, m, order[k]) {
+            return rule;
         }
     }
-    Err(NoMemory)
+    unreachable!()
 }
 
 // The rule of the monomial: a lead has that of its polynomial in the basis, and another one comes from a quotient by a variable.
@@ -225,19 +244,18 @@ fn rule_of(
     inside: bool,
     m: &Mono,
 ) -> Result<Rule, NoMemory>
-    requires lifts { AreLifts lifted.now play.now.lifts }
-    requires affine { IsAffine lifted.now.variables m.now }
-    requires rising { AreRising play.now.corners play.now.border play.now.outer }
+    requires play { IsPlay lifted.now play.now }
+    requires m { Contains (chosen inside play.now.border play.now.outer) m.now }
     ensures { IfOk result (IsRuleIn (curve_of_lifted lifted.now) play.now.corners play.now.border play.now.outer m.now) }
 {
     let basis = lifted.sum_basis();
     match with_lead(basis, m) {
         Some(i) => lead_rule(alloc, lifted, play, m, &basis[i], &play.lifts.as_slice()[i]),
-        None => multiple_rule(lifted, play, inside, m),
+        None => Ok(multiple_rule(lifted, play, inside, m)),
     }
 }
 
-// The rules of the monomials.
+// The rules of monomials of the border, or of outer ones.
 pub(crate) fn rules_of(
     alloc: Global,
     lifted: &Lifted,
@@ -245,9 +263,8 @@ pub(crate) fn rules_of(
     inside: bool,
     monomials: &[Mono],
 ) -> Result<List<Rule>, NoMemory>
-    requires lifts { AreLifts lifted.now play.now.lifts }
-    requires affine { All (IsAffine lifted.now.variables) monomials.now }
-    requires rising { AreRising play.now.corners play.now.border play.now.outer }
+    requires play { IsPlay lifted.now play.now }
+    requires each { All (Contains (chosen inside play.now.border play.now.outer)) monomials.now }
     ensures { IfOk result (AreRulesIn (curve_of_lifted lifted.now) play.now.corners play.now.border play.now.outer monomials.now) }
 {
     let mut rules = List::new(alloc);
