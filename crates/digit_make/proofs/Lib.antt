@@ -7,4 +7,3 @@ mod Parents
 mod Leads
 mod Made
 mod Deeper
-mod Fits

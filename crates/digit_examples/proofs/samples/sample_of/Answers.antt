@@ -2,7 +2,7 @@ use Rattle.std.proofs.Common.{◌≡◌, sym, subst, ◌∙◌}
 use Rattle.polys.specs.Curve.{Fit}
 use Rattle.jacobian_pick.specs.Choice.{curve_of_lifted}
 use Rattle.digit_make.specs.Making.{IsLiftedOf}
-use Rattle.corner_basis.proofs.tests.sample_of.Goals as goal
+use Rattle.digit_examples.proofs.samples.sample_of.Goals as goal
 
 pub returns-clause-lifted : goal.returns-clause-lifted
 returns-clause-lifted c = subst (λ z. IsLiftedOf z c.in_ok-lifted.lifted) (sym c.in_ok-new.ensures.ok) (record {
