@@ -8,19 +8,24 @@ use polys::Poly;
 use std::alloc::Global;
 use std::test::Fail;
 
+// Whether the polynomial is the one with this number.
+fn is_at(list: &[Poly], place: usize, f: &Poly) -> bool {
+    match list.get(place) {
+        Some(g) => g.same(f),
+        None => false,
+    }
+}
+
 // Whether these are the generators of the problem, in this order.
 fn are(alloc: Global, found: &[Poly], wanted: &str) -> Result<bool, Fail> {
     let problem = problem_of(alloc, wanted)?;
     let generators = problem.generators.as_slice();
-    if found.len() != generators.len() {
-        return Ok(false);
-    }
     for i in 0..found.len() {
-        if !found[i].same(&generators[i]) {
+        if !is_at(generators, i, &found[i]) {
             return Ok(false);
         }
     }
-    Ok(true)
+    Ok(found.len() == generators.len())
 }
 
 // Whether the first blocks of digits give this basis, the digits having so many blocks.

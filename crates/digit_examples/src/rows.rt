@@ -6,6 +6,7 @@ ghost use Rattle.digit_make.specs.Making.{IsLiftedOf};
 use crate::samples::{CUSP, Sample, UNIT, problem_of, sample_of};
 use digit_make::{extended, make};
 use digit_space::Digits;
+use monomials::Mono;
 use std::alloc::Global;
 use std::test::Fail;
 
@@ -33,19 +34,24 @@ fn has_digits(digits: &Digits, known: Known) -> Result<bool, Fail> {
     Ok(true)
 }
 
+// Whether the monomial with this number is x^i y^j.
+fn is_monomial(basis: &[Mono], place: usize, i: u32, j: u32) -> bool {
+    match basis.get(place) {
+        Some(m) => m.exponent(0) == i && m.exponent(1) == j,
+        None => false,
+    }
+}
+
 // Whether the basis is the monomials with these exponents.
 fn has_basis(digits: &Digits, exponents: &[(u32, u32)]) -> bool {
     let basis = digits.basis();
-    if basis.len() != exponents.len() {
-        return false;
-    }
-    for i in 0..basis.len() {
-        let (x, y) = exponents[i];
-        if basis[i].exponent(0) != x || basis[i].exponent(1) != y {
+    for place in 0..exponents.len() {
+        let (i, j) = exponents[place];
+        if !is_monomial(basis, place, i, j) {
             return false;
         }
     }
-    true
+    basis.len() == exponents.len()
 }
 
 // Whether the polynomials have these digits, made at the depth.
