@@ -9,8 +9,7 @@ mod basis;
 mod front;
 mod queue;
 mod staircase;
+mod zero;
 
 pub use basis::{reduced_basis_of, reduced_basis_of_front};
-
-#[cfg(test)]
-mod tests;
+pub use zero::zero_space;

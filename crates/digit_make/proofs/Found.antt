@@ -1,5 +1,5 @@
 -- Monomials that are found in lists, and lists that grow.
-use Rattle.std.proofs.Common.{◌≡◌, ℕ, zero, suc, ◌+◌, ◌-◌, ◌*◌, ◌<◌, ◌≤◌, replicate, List, [], ◌∷◌, ◌++◌, length, get_or, take, refl, sym, ap, ap₂, ◌∙◌, subst, arith}
+use Rattle.std.proofs.Common.{◌≡◌, ℕ, suc, ◌+◌, ◌-◌, ◌*◌, ◌<◌, ◌≤◌, replicate, List, [], ◌∷◌, ◌++◌, length, get_or, take, refl, sym, ap, ap₂, ◌∙◌, subst, arith}
 use Rattle.std.specs.declared.cmp.Ordering.{Ordering}
 use Rattle.std.specs.declared.cmp.Ordering.TheVariants.{Less, Equal, Greater}
 use Rattle.std.specs.Ordering.{nat_cmp, MatchOrdering}
@@ -7,45 +7,17 @@ use Rattle.std.specs.Cmp.{ranks}
 use Rattle.std.proofs.lemmas.List.{get_or_append_left, get_or_push, get_or_default, length_push, map-append, take_more}
 use Rattle.std.proofs.lemmas.List.Elements.{All-push}
 use Rattle.std.proofs.Math.Nat.{mul-le-mul_left}
-use Rattle.monomials.specs.Mono.{Monomial, unit, times, variable, cmp_dp}
-use Rattle.monomials.proofs.Order.{same_dp}
+use Rattle.monomials.specs.Mono.{Monomial, unit, times, variable}
 use Rattle.polys.specs.declared.term.Term.{Term}
-use Rattle.polys.specs.Terms.{IsAffine, OnlyFirst, IsCanonical}
+use Rattle.polys.specs.Terms.{IsCanonical}
 use Rattle.polys.proofs.Merge.{coeff_at}
 use Rattle.digit_space.specs.declared.products.Product.{Product}
 use Rattle.digit_make.specs.declared.plan.Place.{Place}
 use Rattle.digit_make.specs.declared.plan.Share.{Share}
 use Rattle.digit_make.specs.Planned.{AreFirstProducts, AreSharesIn, IsFoundIn, IsPlaceIn, monomial_in, terms_in}
 
-pub found : (list : List Monomial) (i : ℕ) (m w : Monomial) → i < length list → w ≡ get_or list i w → cmp_dp w m ≡ Equal → m ≡ get_or list i unit
-found list i m w l e q = sym (same_dp w m q) ∙ e ∙ get_or_default list i w unit l
-
 pub mono_read : (monomials list : List Monomial) (j : ℕ) (m : Monomial) → list ≡ monomials → j < length monomials → m ≡ get_or list j m → m ≡ get_or monomials j unit
 mono_read monomials list j m e l q = q ∙ ap (λ z. get_or z j m) e ∙ get_or_default monomials j m unit l
-
--- ---- affine monomials
-
-only_zeros : (a : List ℕ) → ((i : ℕ) → get_or a i 0 ≡ 0) → OnlyFirst zero a
-only_zeros [] h = tt
-only_zeros (x ∷ a) h = (h 0, only_zeros a (λ i. h (suc i)))
-
-only_first : (n : ℕ) (a : List ℕ) → ((i : ℕ) → n ≤ i → get_or a i 0 ≡ 0) → OnlyFirst n a
-only_first zero a h = only_zeros a (λ i. h i (omega arith))
-only_first (suc n) [] h = tt
-only_first (suc n) (x ∷ a) h = only_first n a (λ i l. h (suc i) (omega arith))
-
-past : (a : List ℕ) (i : ℕ) → length a ≤ i → get_or a i 0 ≡ 0
-past [] i l = refl
-past (x ∷ a) zero l = absurd (omega arith)
-past (x ∷ a) (suc i) l = past a i (omega arith)
-
-pub affine_by : (n : ℕ) (m : Monomial) → length m.exponents ≡ 7 → get_or m.exponents 6 0 ≡ 0 → m.component ≡ 0 → ((i : ℕ) → n ≤ i → i < 6 → get_or m.exponents i 0 ≡ 0) → IsAffine n m
-affine_by n m seven last plain h = record { seven = seven; first = only_first n m.exponents (λ i l. each i l (nat_cmp i 6) (ranks i 6)); plain = plain }
-  where
-    each : (i : ℕ) → n ≤ i → (r : Ordering) → MatchOrdering r (i < 6) (i ≡ 6) (6 < i) → get_or m.exponents i 0 ≡ 0
-    each i l Less q = h i l q
-    each i l Equal q = ap (λ z. get_or m.exponents z 0) q ∙ last
-    each i l Greater q = past m.exponents i (omega arith)
 
 -- ---- lists that gain a member
 

@@ -1,5 +1,5 @@
 -- The corners by a reduced basis, and the rule of a lead.
-use Rattle.std.proofs.Common.{◌≡◌, ℕ, ◌+◌, ◌-◌, ◌<◌, ◌≤◌, List, [], ◌∷◌, ◌++◌, length, get_or, sym, ap, ap₂, ◌∙◌, subst, arith}
+use Rattle.std.proofs.Common.{◌≡◌, ℕ, ◌<◌, ◌≤◌, List, [], ◌∷◌, ◌++◌, length, get_or, sym, ap, ap₂, ◌∙◌, subst, arith}
 use Rattle.std.proofs.lemmas.List.{get_or_default, get_or-map, length-map}
 use Rattle.std.specs.List.{All, Contains}
 use Rattle.std.proofs.lemmas.List.Elements.{All-cons, All-weaker, All-contains, All-contains_itself, All-get_or, All-map}
@@ -8,7 +8,7 @@ use Rattle.comm_ring.proofs.Quote.{ring, quote}
 use Rattle.prime_field.proofs.Table.{positive_of_prime, above_one}
 use Rattle.monomials.specs.Mono.{Monomial}
 use Rattle.polys.specs.declared.term.Term.{Term}
-use Rattle.polys.specs.Terms.{IsAffine, IsPoly, normal, add, sub, mul}
+use Rattle.polys.specs.Terms.{EachMono, IsAffine, IsPoly, normal, add, sub, mul}
 use Rattle.polys.specs.Ideal.{InIdeal, HasDim, HasInfiniteDim, Spans, number_combination}
 use Rattle.polys.specs.Poly.{Polynomial, terms_of}
 use Rattle.polys.specs.Curve.{IsOver}
@@ -42,13 +42,13 @@ module _ (l : LiftedData) (h : IsLifted l) where
   positive : 0 < l.prime
   positive = positive_of_prime l.prime h.prime
 
-  sum_polys : All (IsPoly l.prime l.variables) (terms_of l.sum)
+  pub sum_polys : All (IsPoly l.prime l.variables) (terms_of l.sum)
   sum_polys = terms_poly l.prime l.variables l.sum h.sum_over
 
   gens : All (IsPoly l.prime l.variables) (l.denominator.terms ∷ terms_of l.ideal)
   gens = All-cons (IsPoly l.prime l.variables) l.denominator.terms (terms_of l.ideal) h.denominator.poly (terms_poly l.prime l.variables l.ideal h.ideal_over)
 
-  standard : IsStandardBasis l.prime l.variables (l.denominator.terms ∷ terms_of l.ideal) (terms_of l.sum)
+  pub standard : IsStandardBasis l.prime l.variables (l.denominator.terms ∷ terms_of l.ideal) (terms_of l.sum)
   standard =
       let base = reduced_law l.prime l.variables (terms_of l.sum) h.prime h.sum.reduced in record {
         members = All-weaker (Contains (terms_of l.sum)) (InIdeal l.prime l.variables (l.denominator.terms ∷ terms_of l.ideal))
@@ -137,3 +137,9 @@ lifts_push l lifts basis i u g n q k b h new j d e m =
 
     here : P i u
     here y = subst (λ (z : Polynomial). (u.prime ≡ l.prime) × IsLift l z.terms u.terms) (b ∙ get_or_default basis i g y k ∙ ap (λ z. get_or z i y) q) new
+
+-- the monomials of lifts are affine
+pub lifts_affine : (l : LiftedData) (lifts read : List Polynomial) (n : ℕ) → AreLifts l lifts → read ≡ lifts → n ≡ l.variables → All (λ f. EachMono (IsAffine n) f.terms) read
+lifts_affine l lifts read n h e q =
+    subst (All (λ (f : Polynomial). EachMono (IsAffine n) f.terms)) (sym e)
+    (λ j d k. subst (λ z. EachMono (IsAffine z) (get_or lifts j d).terms) (sym q) (h.each j d d k).1.poly.affine)

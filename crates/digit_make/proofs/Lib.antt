@@ -2,7 +2,8 @@ mod Expansion
 mod Settings
 mod Steps
 mod Found
+mod Playing
+mod Parents
 mod Leads
 mod Made
 mod Deeper
-mod Fits

@@ -1,12 +1,13 @@
 -- A plan has the curve and the corners that the lemmas on blocks ask for.
-use Rattle.std.proofs.Common.{◌≡◌, ℕ, suc, ◌*◌, ◌≤◌, ◌++◌, List, [], ◌∷◌, length, map, refl, ap, sym, ◌∙◌, subst, arith}
+use Rattle.std.proofs.Common.{◌≡◌, ℕ, suc, ◌*◌, ◌<◌, ◌≤◌, ◌++◌, List, [], ◌∷◌, length, map, refl, ap, sym, ◌∙◌, subst, arith}
 use Rattle.std.specs.List.{All}
 use Rattle.std.proofs.lemmas.List.{length-map}
 use Rattle.std.proofs.lemmas.List.Elements.{All-weaker, All-contains_itself}
 use Rattle.std.specs.List.{Contains}
 use Rattle.prime_field.specs.Primes.{IsPrime}
 use Rattle.prime_field.proofs.Table.{above_one}
-use Rattle.monomials.specs.Mono.{Monomial}
+use Rattle.monomials.specs.Mono.{Monomial, times, variable}
+use Rattle.monomials.proofs.Factors.{divides_law}
 use Rattle.polys.specs.declared.curve.Curve.{Curve}
 use Rattle.polys.specs.Terms.{IsAffine, add, mul}
 use Rattle.polys.specs.Ideal.{number_combination}
@@ -14,6 +15,8 @@ use Rattle.polys.specs.Curve.{CurveData, Fit, data_of}
 use Rattle.curve_model.specs.Laws.{IsFinite}
 use Rattle.curve_laws.proofs.FitLaws.{fit_law}
 use Rattle.standard_monomials.specs.Standard.{polynomial_of}
+use Rattle.standard_monomials.proofs.Powers.{length_power}
+use Rattle.standard_monomials.proofs.Search.{found_law}
 use Rattle.standard_monomials.proofs.Unique.{unique_law}
 use Rattle.digit_laws.specs.Digits.{AreCornersOf, AreDigits, places, spread, value}
 use Rattle.digit_laws.proofs.DigitLaws.{digit_law, span, times_polys, place_polys, appended, pushed, numbers_poly}
@@ -21,6 +24,7 @@ use Rattle.digit_laws.proofs.Blocks.{block_law}
 use Rattle.digit_make.specs.Blocks.{IsKnown}
 use Rattle.digit_make.specs.declared.plan.Plan.{Plan}
 use Rattle.digit_make.specs.Planned.{IsPlan, curve_of}
+use Rattle.digit_make.specs.Playing.{AreClosed}
 use Rattle.digit_make.proofs.Expansion.{IsSetting}
 
 corners_affine : (A : CurveData) (ms : List Monomial) → AreCornersOf A ms → All (IsAffine A.variables) ms
@@ -64,3 +68,15 @@ nothing_known A ms s m f =
     none_from : (row : List ℕ) → length row ≡ 0 → row ≡ []
     none_from [] l = refl
     none_from (x ∷ row) l = absurd (omega arith)
+
+-- what divides a corner is one
+pub closed_of : (A : CurveData) (ms : List Monomial) → AreCornersOf A ms → A.variables ≤ 6 → length ms ≤ 256 → AreClosed A.variables ms
+closed_of A ms k six few = record { rising = k.rising; affine = corners_affine A ms k; few = few; closed = closed }
+  where
+    closed : (m : Monomial) (v : ℕ) → IsAffine A.variables m → v < A.variables → Contains ms (times m (variable v)) → Contains ms m
+    closed m v a l c =
+        let s = (k.all.exact (times m (variable v))).0 c in
+        let seven : length m.exponents ≡ length (times m (variable v)).exponents = a.seven ∙ sym s.affine.seven in
+        (k.all.exact m).1
+        (found_law.divisor A.variables k.basis m (times m (variable v)) a
+        ((divides_law m (times m (variable v)) seven).1 (variable v, a.seven ∙ sym (length_power 7 v 1), refl, refl)) s)

@@ -1,3 +1,4 @@
 pub mod Blocks
+pub mod Playing
 pub mod Planned
 pub mod Making

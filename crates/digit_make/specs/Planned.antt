@@ -11,7 +11,11 @@ use Rattle.standard_monomials.specs.Standard.{polynomial_of}
 use Rattle.digit_laws.specs.Digits.{AreCornersOf}
 use Rattle.digit_space.specs.declared.products.Product.{Product}
 use Rattle.digit_space.specs.declared.products.Product.TheVariants.{Corner as AtCorner, Border as AtBorder}
+use Rattle.lift_colon.specs.Lifted.{LiftedData}
 use Rattle.digit_make.specs.Blocks.{AreKnown, IsBlock}
+use Rattle.digit_make.specs.Making.{AreLifts, curve_of_lifted}
+use Rattle.digit_make.specs.Playing.{AreClosed, AreVariables, IsBorder, IsCovered, IsOuter}
+use Rattle.digit_make.specs.declared.rules.Play.{Play}
 use Rattle.digit_make.specs.declared.plan.Place.{Place}
 use Rattle.digit_make.specs.declared.plan.Place.TheVariants.{Corner, Border, Outer}
 use Rattle.digit_make.specs.declared.plan.Plan.{Plan}
@@ -36,6 +40,12 @@ IsPlaceIn corners border outer (Corner i) = i < length corners
 IsPlaceIn corners border outer (Border j) = j < length border
 IsPlaceIn corners border outer (Outer j) = j < length outer
 
+-- the place is there, and is no corner's
+abbrev pub IsOutsidePlace : (border outer : List Monomial) → Place → Type 0
+IsOutsidePlace border outer (Corner i) = ⊥
+IsOutsidePlace border outer (Border j) = j < length border
+IsOutsidePlace border outer (Outer j) = j < length outer
+
 -- the terms that shares stand for
 abbrev pub terms_in : (corners border outer : List Monomial) → List Share → List Term
 terms_in corners border outer shares = map (λ s. record { coeff = s.coeff; mono = monomial_in corners border outer s.place }) shares
@@ -56,7 +66,22 @@ abbrev pub IsRuleIn : CurveData → (corners border outer : List Monomial) → M
 IsRuleIn A corners border outer m (Lead tail lift) =
     AreSharesIn A.prime corners border outer tail × AreSharesIn A.prime corners border outer lift × IsLeadSumIn A corners border outer m tail lift
 IsRuleIn A corners border outer m (Multiple v place) =
-    (v < A.variables) × IsPlaceIn corners border outer place × (times (monomial_in corners border outer place) (variable v) ≡ m)
+    (v < A.variables) × IsOutsidePlace border outer place × (times (monomial_in corners border outer place) (variable v) ≡ m)
+
+-- the rule multiplies a monomial outside the corners by the variable
+abbrev pub IsMultipleRule : ℕ → (corners border outer : List Monomial) → Monomial → Rule → Type 0
+IsMultipleRule v corners border outer m rule =
+    (place : Place) × (rule ≡ Multiple v place) × IsOutsidePlace border outer place × (times (monomial_in corners border outer place) (variable v) ≡ m)
+
+-- what holds of the monomials in play for these bases
+pub record IsPlay (l : LiftedData) (play : Play) : Type 0 where
+  pub order : AreVariables l.variables play.order.items
+  pub corners : AreCornersOf (curve_of_lifted l) play.corners
+  pub closed : AreClosed l.variables play.corners
+  pub border : IsBorder l.variables play.corners play.border
+  pub outer : IsOuter l.variables play.border play.outer
+  pub lifts : AreLifts l play.lifts
+  pub covered : All (λ f. IsCovered play.corners play.border play.outer f.terms) play.lifts
 
 -- w is the corner or the monomial of the border with this number
 abbrev pub IsFoundIn : (corners border : List Monomial) → Monomial → Product → Type 0

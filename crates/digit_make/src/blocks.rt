@@ -231,7 +231,7 @@ fn put_block(
             put_lead_block(plan, rows, m, tail.as_slice(), lift.as_slice(), t, out)
         }
         Rule::Multiple(v, place) => match *place {
-            Place::Corner(_) => Err(not_made()),
+            Place::Corner(_) => unreachable!(),
             Place::Border(j) => {
                 let factor = &plan.border.as_slice()[j];
                 put_product_block(

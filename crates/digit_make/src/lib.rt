@@ -11,6 +11,3 @@ mod rules;
 
 pub use extending::extended;
 pub use making::make;
-
-#[cfg(test)]
-mod tests;

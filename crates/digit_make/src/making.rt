@@ -3,12 +3,13 @@ ghost use Rattle.std.specs.Prelude.{◌≡◌, ◌++◌, ◌*◌, ◌-◌, ◌<�
 ghost use Rattle.polys.specs.Curve.{Fit, data_of};
 ghost use Rattle.polys.specs.Terms.{IsAffine};
 ghost use Rattle.digit_laws.specs.Digits.{AreCornersOf};
-ghost use Rattle.digit_make.specs.Making.{AreLifts, IsLiftedOf, AreTrimmed, AreOuter};
-ghost use Rattle.digit_make.specs.Planned.{IsPlan, AreRowsOf};
+ghost use Rattle.digit_make.specs.Making.{IsLiftedOf, AreTrimmed, AreOuter, curve_of_lifted};
+ghost use Rattle.digit_make.specs.Planned.{IsPlan, IsPlay, AreRowsOf};
+ghost use Rattle.digit_make.specs.Playing.{AreClosed};
 
 use crate::growing::grow;
 use crate::plan::{Plan, Rows};
-use crate::planning::{are_affine, border_of, corners_of, lifts_of, not_found, order_of, outer_of};
+use crate::planning::{border_of, corners_of, lifts_of, order_of, outer_of};
 use crate::rules::{Play, products_of, rules_of};
 use digit_space::{Digits, OuterRow};
 use lift_colon::Lifted;
@@ -21,10 +22,12 @@ use std::sync::Arc;
 // The monomials in play for a curve with these corners.
 fn play_of(alloc: Global, lifted: &Lifted, corners: List<Mono>) -> Result<Play, NoMemory>
     requires variables { lifted.now.variables ≤ 6 }
+    requires corners { AreCornersOf (curve_of_lifted lifted.now) corners }
+    requires closed { AreClosed lifted.now.variables corners }
+    requires some { 0 < length corners }
+    ensures play { IfOk result (IsPlay lifted.now) }
     ensures corners { IfOk result (λ play. play.corners ≡ corners) }
-    ensures border { IfOk result (λ play. All (IsAffine lifted.now.variables) play.border) }
-    ensures lifts { IfOk result (λ play. AreLifts lifted.now play.lifts) }
-    ensures outer { IfOk result (λ play. All (IsAffine lifted.now.variables) play.outer) }
+    ensures affine { IfOk result (λ play. All (IsAffine lifted.now.variables) play.border) }
 {
     let variables = lifted.variables();
     let order = order_of(alloc, variables, corners.as_slice())?;
@@ -37,9 +40,6 @@ fn play_of(alloc: Global, lifted: &Lifted, corners: List<Mono>) -> Result<Play, 
         corners.as_slice(),
         border.as_slice(),
     )?;
-    if !are_affine(variables, border.as_slice()) || !are_affine(variables, outer.as_slice()) {
-        return Err(not_found());
-    }
     Ok(Play {
         order,
         corners,
@@ -126,7 +126,7 @@ fn border_row(alloc: Global, wide: usize, row: &[u32]) -> Result<List<u32>, NoMe
     ensures zeros { IfOk result (λ made. made ++ replicate (wide - length made) 0 ≡ row.now) }
 {
     if row.len() != wide {
-        return Err(not_found());
+        return Err(NoMemory);
     }
     trimmed(alloc, row)
 }
@@ -150,7 +150,7 @@ fn outer_row(alloc: Global, wide: usize, monomial: &Mono, row: &[u32]) -> Result
     ensures long { IfOk result (λ _. length row.now ≡ wide) }
 {
     if row.len() != wide {
-        return Err(not_found());
+        return Err(NoMemory);
     }
     let digits = List::from_slice(alloc, row)?;
     Ok(OuterRow {

@@ -1,53 +1,55 @@
 // The monomials outside the corners whose digits are needed.
-ghost use Rattle.std.specs.Prelude.{◌≡◌, ℕ, ◌<◌, ◌≤◌, length, slice_index_or, All, IfOk, IfSome, IsTrue};
-ghost use Rattle.monomials.specs.Mono.{unit, times, variable};
+ghost use Rattle.std.specs.Prelude.{◌≡◌, ℕ, ◌+◌, ◌<◌, ◌≤◌, length, slice_index, slice_index_or, All, Contains, IfNone, IfOk, IfSome, OnOk};
+ghost use Rattle.std.specs.Bool.{MatchBool};
+ghost use Rattle.monomials.specs.declared.mono.TheConstants.{MAX_DEGREE};
+ghost use Rattle.monomials.specs.Mono.{Monomial, unit, times, total_degree, variable};
 ghost use Rattle.polys.specs.Curve.{HasDimModulo};
-ghost use Rattle.polys.specs.Terms.{IsAffine};
+ghost use Rattle.polys.specs.Terms.{EachMono, IsAffine};
+ghost use Rattle.standard_monomials.specs.Finding.{GainsMonomial};
+ghost use Rattle.standard_monomials.specs.Standard.{IsRising};
 ghost use Rattle.digit_laws.specs.Digits.{AreCornersOf};
 ghost use Rattle.digit_make.specs.Making.{AreLifts, curve_of_lifted};
+ghost use Rattle.digit_make.specs.Playing.{AreClosed, AreLow, AreVariables, GainsOutside, GainsProducts, IsBorder, IsCovered, IsInPlay, IsOuter, IsQuotient};
 
 use lift_colon::Lifted;
 use lists::{List, NoMemory};
-use monomials::{MAX_DEGREE, Mono};
+use monomials::Mono;
 use polys::Poly;
 use standard_monomials::{Standard, standard_monomials};
 use std::alloc::Global;
-use std::cmp::Ordering;
 
 /// The greatest number of corners.
 pub const MOST_CORNERS: u32 = 256;
 
-// The answer where a search fails that cannot fail.
-pub(crate) fn not_found() -> NoMemory {
-    NoMemory
-}
-
-// The number of the monomial in a rising list.
+// The number of the monomial in the rising list.
 pub(crate) fn find(list: &[Mono], m: &Mono) -> Option<usize>
-    ensures { IfSome result (λ i. (i < length list.now) × (m.now ≡ slice_index_or list.now i unit)) }
+    requires { IsRising list.now }
+    ensures some { IfSome result (λ i. (i < length list.now) × (m.now ≡ slice_index_or list.now i unit)) }
+    ensures none { IfNone result (Contains list.now m.now → ⊥) }
 {
     match list.binary_search_by(|w| Mono::cmp_dp(w, m)) {
-        Ok(i) => if_equal(list, i, m),
+        Ok(i) => Some(i),
         Err(_) => None,
     }
 }
 
-// The number, if the monomial stands there.
-fn if_equal(list: &[Mono], i: usize, m: &Mono) -> Option<usize>
-    ensures { IfSome result (λ j. (j < length list.now) × (m.now ≡ slice_index_or list.now j unit)) }
+// Whether the monomial is in the rising list.
+fn holds(list: &[Mono], m: &Mono) -> bool
+    requires { IsRising list.now }
+    ensures { MatchBool result (Contains list.now m.now) (Contains list.now m.now → ⊥) }
 {
-    if list.len() <= i {
-        return None;
-    }
-    match Mono::cmp_dp(&list[i], m) {
-        Ordering::Equal => Some(i),
-        Ordering::Less => None,
-        Ordering::Greater => None,
+    match find(list, m) {
+        Some(_) => true,
+        None => false,
     }
 }
 
 // Puts the monomial at its place in the rising list, unless it is there.
-fn insert(list: &mut Vec<Mono>, m: Mono) -> Result<(), NoMemory> {
+fn insert(list: &mut Vec<Mono>, m: Mono) -> Result<(), NoMemory>
+    requires { IsRising list.old.items }
+    ensures gains { OnOk result (GainsMonomial m list.old.items list.new.items) }
+    ensures one { OnOk result (length list.new.items ≤ length list.old.items + 1) }
+{
     if let Err(place) = list.as_slice().binary_search_by(|w| Mono::cmp_dp(w, &m)) {
         list.insert(place, m)?;
     }
@@ -55,20 +57,21 @@ fn insert(list: &mut Vec<Mono>, m: Mono) -> Result<(), NoMemory> {
 }
 
 // The product with the variable `v`.
-pub(crate) fn multiple(m: &Mono, v: u32) -> Result<Mono, NoMemory>
-    requires { v < 6 }
-    ensures { IfOk result (λ w. w ≡ times m.now (variable v)) }
+pub(crate) fn multiple(m: &Mono, v: u32) -> Mono
+    requires v { v < 6 }
+    requires room { total_degree m.now.exponents < MAX_DEGREE }
+    ensures { result ≡ times m.now (variable v) }
 {
-    if MAX_DEGREE <= m.degree() {
-        return Err(not_found());
-    }
-    Ok(Mono::product(m, &Mono::var(v)))
+    let _degree = m.degree();
+    Mono::product(m, &Mono::var(v))
 }
 
 // The quotient by the variable `v`, if it divides the monomial.
 pub(crate) fn quotient(m: &Mono, v: u32) -> Option<Mono>
     requires { v < 6 }
-    ensures { IfSome result (λ w. times w (variable v) ≡ m.now) }
+    ensures some { IfSome result (λ w. times w (variable v) ≡ m.now) }
+    ensures seven { IfSome result (λ w. length w.exponents ≡ 7) }
+    ensures none { IfNone result (slice_index m.now.exponents v ≡ 0) }
 {
     if m.exponent(v) == 0 {
         return None;
@@ -100,7 +103,9 @@ pub(crate) fn border_of(
     variables: u32,
     corners: &[Mono],
 ) -> Result<List<Mono>, NoMemory>
-    requires { variables ≤ 6 }
+    requires variables { variables ≤ 6 }
+    requires corners { AreClosed variables corners.now }
+    ensures { IfOk result (IsBorder variables corners.now) }
 {
     let mut border = Vec::new(alloc);
     for v in 0..variables {
@@ -111,14 +116,28 @@ pub(crate) fn border_of(
 
 // Puts the products of the variable `v` and a corner that are no corners into the rising list.
 fn insert_products(v: u32, corners: &[Mono], border: &mut Vec<Mono>) -> Result<(), NoMemory>
-    requires { v < 6 }
+    requires v { v < 6 }
+    requires low { AreLow corners.now }
+    requires corners { IsRising corners.now }
+    requires rising { IsRising border.old.items }
+    ensures { OnOk result (GainsProducts v (length corners.now) corners.now border.old.items border.new.items) }
 {
     for i in 0..corners.len() {
-        let m = multiple(&corners[i], v)?;
-        if find(corners, &m).is_none() {
-            insert(border, m)?;
-        }
+        insert_outside(corners, multiple(&corners[i], v), border)?;
     }
+    Ok(())
+}
+
+// Puts the monomial at its place in the rising list, unless it is a corner or is there.
+fn insert_outside(corners: &[Mono], m: Mono, border: &mut Vec<Mono>) -> Result<(), NoMemory>
+    requires corners { IsRising corners.now }
+    requires rising { IsRising border.old.items }
+    ensures { OnOk result (GainsOutside corners.now m border.old.items border.new.items) }
+{
+    if holds(corners, &m) {
+        return Ok(());
+    }
+    insert(border, m)?;
     Ok(())
 }
 
@@ -145,10 +164,19 @@ pub(crate) fn outer_of(
     order: &[u32],
     corners: &[Mono],
     border: &[Mono],
-) -> Result<List<Mono>, NoMemory> {
+) -> Result<List<Mono>, NoMemory>
+    requires order { AreVariables (length order.now) order.now }
+    requires six { length order.now ≤ 6 }
+    requires corners { AreClosed (length order.now) corners.now }
+    requires some { 0 < length corners.now }
+    requires border { IsBorder (length order.now) corners.now border.now }
+    requires lifts { All (λ f. EachMono (IsAffine (length order.now)) f.terms) lifts.now }
+    ensures outer { IfOk result (IsOuter (length order.now) border.now) }
+    ensures covered { IfOk result (λ outer. All (λ f. IsCovered corners.now border.now outer f.terms) lifts.now) }
+{
     let mut outer = Vec::new(alloc);
-    for lift in lifts {
-        insert_chains(order, corners, border, lift, &mut outer)?;
+    for i in 0..lifts.len() {
+        insert_chains(order, corners, border, &lifts[i], &mut outer)?;
     }
     Ok(List::of_vec(outer))
 }
@@ -160,47 +188,78 @@ fn insert_chains(
     border: &[Mono],
     f: &Poly,
     outer: &mut Vec<Mono>,
-) -> Result<(), NoMemory> {
-    for t in f.terms() {
-        insert_chain(order, corners, border, t.mono, outer)?;
+) -> Result<(), NoMemory>
+    requires order { AreVariables (length order.now) order.now }
+    requires six { length order.now ≤ 6 }
+    requires corners { AreClosed (length order.now) corners.now }
+    requires some { 0 < length corners.now }
+    requires border { IsBorder (length order.now) corners.now border.now }
+    requires affine { EachMono (IsAffine (length order.now)) f.now.terms }
+    requires outer { IsOuter (length order.now) border.now outer.old.items }
+    ensures outer { OnOk result (IsOuter (length order.now) border.now outer.new.items) }
+    ensures kept { OnOk result ((w : Monomial) → Contains outer.old.items w → Contains outer.new.items w) }
+    ensures covered { OnOk result (IsCovered corners.now border.now outer.new.items f.now.terms) }
+{
+    let terms = f.terms();
+    for i in 0..terms.len() {
+        insert_chain(order, corners, border, terms[i].mono, outer)?;
     }
     Ok(())
 }
 
-// Puts the monomial and its quotients by variables into the list, down to one that is known.
+// Puts the monomial and its quotients by variables into the list, down to one that is known: 1 is a corner.
 fn insert_chain(
     order: &[u32],
     corners: &[Mono],
     border: &[Mono],
     m: Mono,
     outer: &mut Vec<Mono>,
-) -> Result<(), NoMemory> {
-    let mut m = m;
-    for _ in 0..m.degree() {
-        if is_known(corners, border, outer.as_slice(), &m) {
-            return Ok(());
-        }
-        insert(outer, m)?;
-        match first_quotient(order, &m) {
-            Some(w) => m = w,
-            None => return Ok(()),
-        }
+) -> Result<(), NoMemory>
+    requires order { AreVariables (length order.now) order.now }
+    requires six { length order.now ≤ 6 }
+    requires corners { AreClosed (length order.now) corners.now }
+    requires some { 0 < length corners.now }
+    requires border { IsBorder (length order.now) corners.now border.now }
+    requires affine { IsAffine (length order.now) m }
+    requires outer { IsOuter (length order.now) border.now outer.old.items }
+    ensures outer { OnOk result (IsOuter (length order.now) border.now outer.new.items) }
+    ensures kept { OnOk result ((w : Monomial) → Contains outer.old.items w → Contains outer.new.items w) }
+    ensures known { OnOk result (IsInPlay corners.now border.now outer.new.items m) }
+{
+    if is_known(corners, border, outer.as_slice(), &m) {
+        return Ok(());
     }
-    Ok(())
+    match first_quotient(order, &m) {
+        Some(w) => {
+            insert_chain(order, corners, border, w, outer)?;
+            insert(outer, m)?;
+            Ok(())
+        }
+        None => unreachable!(),
+    }
 }
 
 // Whether the monomial is in one of the lists.
-fn is_known(corners: &[Mono], border: &[Mono], outer: &[Mono], m: &Mono) -> bool {
-    find(corners, m).is_some() || find(border, m).is_some() || find(outer, m).is_some()
+fn is_known(corners: &[Mono], border: &[Mono], outer: &[Mono], m: &Mono) -> bool
+    requires corners { IsRising corners.now }
+    requires border { IsRising border.now }
+    requires outer { IsRising outer.now }
+    ensures { MatchBool result (IsInPlay corners.now border.now outer.now m.now) (IsInPlay corners.now border.now outer.now m.now → ⊥) }
+{
+    holds(corners, m) || holds(border, m) || holds(outer, m)
 }
 
 // The quotient by the first variable of the list that divides the monomial.
-fn first_quotient(order: &[u32], m: &Mono) -> Option<Mono> {
-    for v in order {
-        if *v < 6 {
-            if let Some(w) = quotient(m, *v) {
-                return Some(w);
-            }
+fn first_quotient(order: &[u32], m: &Mono) -> Option<Mono>
+    requires order { AreVariables (length order.now) order.now }
+    requires six { length order.now ≤ 6 }
+    requires affine { IsAffine (length order.now) m.now }
+    ensures some { IfSome result (IsQuotient (length order.now) m.now) }
+    ensures none { IfNone result (total_degree m.now.exponents ≡ 0) }
+{
+    for k in 0..order.len() {
+        if let Some(w) = quotient(m, order[k]) {
+            return Some(w);
         }
     }
     None
@@ -208,7 +267,9 @@ fn first_quotient(order: &[u32], m: &Mono) -> Option<Mono> {
 
 // How many products of the variable `v` and a corner are no corners.
 fn border_count(alloc: Global, v: u32, corners: &[Mono]) -> Result<usize, NoMemory>
-    requires { v < 6 }
+    requires v { v < 6 }
+    requires low { AreLow corners.now }
+    requires corners { IsRising corners.now }
 {
     let mut outside = Vec::new(alloc);
     insert_products(v, corners, &mut outside)?;
@@ -221,7 +282,10 @@ pub(crate) fn order_of(
     variables: u32,
     corners: &[Mono],
 ) -> Result<Vec<u32>, NoMemory>
-    requires { variables ≤ 6 }
+    requires variables { variables ≤ 6 }
+    requires low { AreLow corners.now }
+    requires corners { IsRising corners.now }
+    ensures { IfOk result (λ order. AreVariables variables order.items) }
 {
     let mut order: Vec<u32> = Vec::new(alloc);
     let mut counts: Vec<usize> = Vec::new(alloc);
@@ -235,34 +299,4 @@ pub(crate) fn order_of(
         counts.insert(place, count)?;
     }
     Ok(order)
-}
-
-// Whether the monomial is one in the first variables.
-pub(crate) fn is_affine(variables: u32, m: &Mono) -> bool
-    requires { variables ≤ 6 }
-    ensures { IsTrue result → IsAffine variables m.now }
-{
-    let _degree = m.degree();
-    if m.hom() != 0 || m.component() != 0 {
-        return false;
-    }
-    for v in variables..6 {
-        if m.exponent(v) != 0 {
-            return false;
-        }
-    }
-    true
-}
-
-// Whether all monomials are.
-pub(crate) fn are_affine(variables: u32, list: &[Mono]) -> bool
-    requires { variables ≤ 6 }
-    ensures { IsTrue result → All (IsAffine variables) list.now }
-{
-    for i in 0..list.len() {
-        if !is_affine(variables, &list[i]) {
-            return false;
-        }
-    }
-    true
 }

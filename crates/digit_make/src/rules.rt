@@ -1,16 +1,19 @@
 // How the digits of each monomial outside the corners come from those of others.
-ghost use Rattle.std.specs.Prelude.{◌≡◌, ◌+◌, ◌*◌, ◌<◌, ◌≤◌, length, All, IfOk, OnOk, IfSome};
+ghost use Rattle.std.specs.Prelude.{◌≡◌, ◌⊎◌, ◌+◌, ◌*◌, ◌<◌, ◌≤◌, List, length, slice_index_or, All, Contains, IfNone, IfOk, OnOk, IfSome};
+ghost use Rattle.std.specs.Bool.{MatchBool};
 ghost use Rattle.monomials.specs.Mono.{times, variable};
+ghost use Rattle.polys.specs.declared.term.Term.{Term};
 ghost use Rattle.polys.specs.Curve.{IsOver};
-ghost use Rattle.polys.specs.Terms.{IsAffine};
+ghost use Rattle.polys.specs.Poly.{Polynomial, terms_of};
+ghost use Rattle.polys.specs.Terms.{IsAffine, sub};
 ghost use Rattle.lift_colon.specs.Lifted.{IsLift, IsLifted};
-ghost use Rattle.digit_make.specs.declared.plan.Place.{Place};
-ghost use Rattle.digit_make.specs.declared.plan.Rule.TheVariants.{Multiple};
-ghost use Rattle.digit_make.specs.Making.{AreLifts, curve_of_lifted};
-ghost use Rattle.digit_make.specs.Planned.{monomial_in, IsPlaceIn, terms_in, AreSharesIn, IsRuleIn, AreRulesIn, IsFoundIn, AreFirstProducts};
+ghost use Rattle.standard_monomials.specs.Standard.{IsRising, polynomial_of};
+ghost use Rattle.digit_make.specs.Making.{curve_of_lifted};
+ghost use Rattle.digit_make.specs.Playing.{AreClosed, AreRising, AreVariables, HasLead, HasParent, HasQuotientIn, IsBorder, IsCovered, IsInPlay, chosen, seen};
+ghost use Rattle.digit_make.specs.Planned.{monomial_in, IsMultipleRule, IsPlaceIn, IsOutsidePlace, IsPlay, terms_in, AreSharesIn, IsRuleIn, AreRulesIn, IsFoundIn, AreFirstProducts};
 
 use crate::plan::{Place, Rule, Share};
-use crate::planning::{find, multiple, not_found, quotient};
+use crate::planning::{find, multiple, quotient};
 use digit_space::Product;
 use lift_colon::Lifted;
 use lists::{List, NoMemory};
@@ -30,9 +33,6 @@ pub struct Play {
     pub outer: List<Mono>,
 }
 
-/// A bound for the numbers of corners and of monomials of the border.
-const MOST_PLACES: usize = 65_536;
-
 // What each product of a variable and a corner is.
 pub(crate) fn products_of(
     alloc: Global,
@@ -40,13 +40,15 @@ pub(crate) fn products_of(
     corners: &[Mono],
     border: &[Mono],
 ) -> Result<List<Product>, NoMemory>
-    requires { variables ≤ 6 }
+    requires variables { variables ≤ 6 }
+    requires corners { AreClosed variables corners.now }
+    requires border { IsBorder variables corners.now border.now }
     ensures count { IfOk result (λ products. length products ≡ variables * length corners.now) }
     ensures each { IfOk result (AreFirstProducts corners.now border.now) }
 {
     let mut products = List::new(alloc);
     for v in 0..variables {
-        push_products(v, corners, border, &mut products)?;
+        push_products(v, variables, corners, border, &mut products)?;
     }
     Ok(products)
 }
@@ -54,48 +56,48 @@ pub(crate) fn products_of(
 // Appends the products of the variable `v` with the corners.
 fn push_products(
     v: u32,
+    variables: u32,
     corners: &[Mono],
     border: &[Mono],
     products: &mut List<Product>,
 ) -> Result<(), NoMemory>
-    requires v { v < 6 }
+    requires v { (v < variables) × (variables ≤ 6) }
+    requires corners { AreClosed variables corners.now }
+    requires border { IsBorder variables corners.now border.now }
     requires count { length products.old ≡ v * length corners.now }
     requires each { AreFirstProducts corners.now border.now products.old }
     ensures count { OnOk result (length products.new ≡ (v + 1) * length corners.now) }
     ensures each { OnOk result (AreFirstProducts corners.now border.now products.new) }
 {
+    let _variables = variables;
     for i in 0..corners.len() {
-        let m = multiple(&corners[i], v)?;
-        let product = product_of(corners, border, &m)?;
-        products.push(product)?;
+        let m = multiple(&corners[i], v);
+        products.push(product_of(corners, border, &m))?;
     }
     Ok(())
 }
 
 // The corner or the monomial of the border that the monomial is.
-fn product_of(corners: &[Mono], border: &[Mono], m: &Mono) -> Result<Product, NoMemory>
-    ensures { IfOk result (IsFoundIn corners.now border.now m.now) }
+fn product_of(corners: &[Mono], border: &[Mono], m: &Mono) -> Product
+    requires corners { IsRising corners.now × (length corners.now ≤ 256) }
+    requires border { IsRising border.now × (length border.now ≤ 1536) }
+    requires inside { (Contains corners.now m.now → ⊥) → Contains border.now m.now }
+    ensures { IsFoundIn corners.now border.now m.now result }
 {
-    if let Some(i) = find(corners, m) {
-        if i < MOST_PLACES {
-            return Ok(Product::Corner(i as u32));
-        }
-    }
-    match find(border, m) {
-        Some(j) => {
-            if j < MOST_PLACES {
-                Ok(Product::Border(j as u32))
-            } else {
-                Err(not_found())
-            }
-        }
-        None => Err(not_found()),
+    match find(corners, m) {
+        Some(i) => Product::Corner(i as u32),
+        None => match find(border, m) {
+            Some(j) => Product::Border(j as u32),
+            None => unreachable!(),
+        },
     }
 }
 
 // The place of the monomial outside the corners, within the border if that is asked.
 fn outside_place(play: &Play, inside: bool, m: &Mono) -> Option<Place>
-    ensures { IfSome result (λ place. IsPlaceIn play.now.corners play.now.border play.now.outer place × (m.now ≡ monomial_in play.now.corners play.now.border play.now.outer place)) }
+    requires { AreRising play.now.corners play.now.border play.now.outer }
+    ensures some { IfSome result (λ place. IsOutsidePlace play.now.border play.now.outer place × (m.now ≡ monomial_in play.now.corners play.now.border play.now.outer place)) }
+    ensures none { IfNone result (Contains play.now.border m.now ⊎ Contains (seen inside play.now.outer) m.now → ⊥) }
 {
     if let Some(j) = find(play.border.as_slice(), m) {
         return Some(Place::Border(j));
@@ -109,18 +111,26 @@ fn outside_place(play: &Play, inside: bool, m: &Mono) -> Option<Place>
     }
 }
 
-// The place of the monomial.
-fn place_of(play: &Play, m: &Mono) -> Option<Place>
-    ensures { IfSome result (λ place. IsPlaceIn play.now.corners play.now.border play.now.outer place × (m.now ≡ monomial_in play.now.corners play.now.border play.now.outer place)) }
+// The place of the monomial, which has one.
+fn place_of(play: &Play, m: &Mono) -> Place
+    requires rising { AreRising play.now.corners play.now.border play.now.outer }
+    requires known { IsInPlay play.now.corners play.now.border play.now.outer m.now }
+    ensures place { IsPlaceIn play.now.corners play.now.border play.now.outer result }
+    ensures monomial { m.now ≡ monomial_in play.now.corners play.now.border play.now.outer result }
 {
-    match find(play.corners.as_slice(), m) {
-        Some(i) => Some(Place::Corner(i)),
-        None => outside_place(play, false, m),
+    if let Some(i) = find(play.corners.as_slice(), m) {
+        return Place::Corner(i);
+    }
+    match outside_place(play, false, m) {
+        Some(place) => place,
+        None => unreachable!(),
     }
 }
 
 // The terms of the polynomial by their places.
 fn shares_of(alloc: Global, play: &Play, f: &Poly) -> Result<List<Share>, NoMemory>
+    requires rising { AreRising play.now.corners play.now.border play.now.outer }
+    requires known { IsCovered play.now.corners play.now.border play.now.outer f.now.terms }
     ensures shares { IfOk result (AreSharesIn f.now.prime play.now.corners play.now.border play.now.outer) }
     ensures terms { IfOk result (λ shares. terms_in play.now.corners play.now.border play.now.outer shares ≡ f.now.terms) }
 {
@@ -128,13 +138,10 @@ fn shares_of(alloc: Global, play: &Play, f: &Poly) -> Result<List<Share>, NoMemo
     let mut shares = List::new(alloc);
     for i in 0..terms.len() {
         let term = terms[i];
-        match place_of(play, &term.mono) {
-            Some(place) => shares.push(Share {
-                coeff: term.coeff,
-                place,
-            })?,
-            None => return Err(not_found()),
-        }
+        shares.push(Share {
+            coeff: term.coeff,
+            place: place_of(play, &term.mono),
+        })?;
     }
     Ok(shares)
 }
@@ -153,6 +160,9 @@ fn lead_rule(
     requires over { IsOver lifted.now.prime lifted.now.variables g.now }
     requires prime { lift.now.prime ≡ lifted.now.prime }
     requires lift { IsLift lifted.now g.now.terms lift.now.terms }
+    requires rising { AreRising play.now.corners play.now.border play.now.outer }
+    requires tail { IsCovered play.now.corners play.now.border play.now.outer (sub lifted.now.prime (polynomial_of m.now) g.now.terms) }
+    requires covered { IsCovered play.now.corners play.now.border play.now.outer lift.now.terms }
     ensures { IfOk result (IsRuleIn (curve_of_lifted lifted.now) play.now.corners play.now.border play.now.outer m.now) }
 {
     let prime = lifted.prime();
@@ -165,15 +175,28 @@ fn lead_rule(
     Ok(Rule::Lead(tail_shares, lift_shares))
 }
 
+// Whether the polynomial has this lead.
+fn has_lead(f: &Poly, m: &Mono) -> bool
+    ensures { MatchBool result (HasLead f.now.terms m.now) (HasLead f.now.terms m.now → ⊥) }
+{
+    match f.lead() {
+        Some(t) => match Mono::cmp_dp(&t.mono, m) {
+            Ordering::Equal => true,
+            Ordering::Less => false,
+            Ordering::Greater => false,
+        },
+        None => false,
+    }
+}
+
 // The number of the polynomial with the lead `m`.
 fn with_lead(basis: &[Poly], m: &Mono) -> Option<usize>
-    ensures { IfSome result (λ i. i < length basis.now) }
+    ensures some { IfSome result (λ i. (i < length basis.now) × ((d : Polynomial) → HasLead (slice_index_or basis.now i d).terms m.now)) }
+    ensures none { IfNone result ((g : List Term) → Contains (terms_of basis.now) g → HasLead g m.now → ⊥) }
 {
     for i in 0..basis.len() {
-        if let Some(t) = basis[i].lead() {
-            if Mono::cmp_dp(&t.mono, m) == Ordering::Equal {
-                return Some(i);
-            }
+        if has_lead(&basis[i], m) {
+            return Some(i);
         }
     }
     None
@@ -181,8 +204,10 @@ fn with_lead(basis: &[Poly], m: &Mono) -> Option<usize>
 
 // The rule by the variable, if the quotient has a place outside the corners.
 fn rule_by(play: &Play, inside: bool, m: &Mono, v: u32) -> Option<Rule>
-    requires { v < 6 }
-    ensures { IfSome result (λ rule. (place : Place) × (rule ≡ Multiple v place) × IsPlaceIn play.now.corners play.now.border play.now.outer place × (times (monomial_in play.now.corners play.now.border play.now.outer place) (variable v) ≡ m.now)) }
+    requires v { v < 6 }
+    requires rising { AreRising play.now.corners play.now.border play.now.outer }
+    ensures some { IfSome result (IsMultipleRule v play.now.corners play.now.border play.now.outer m.now) }
+    ensures none { IfNone result (HasQuotientIn v play.now.border (seen inside play.now.outer) m.now → ⊥) }
 {
     match quotient(m, v) {
         None => None,
@@ -193,20 +218,22 @@ fn rule_by(play: &Play, inside: bool, m: &Mono, v: u32) -> Option<Rule>
     }
 }
 
-// The rule by the first variable of the list whose quotient has a place outside the corners.
-fn multiple_rule(lifted: &Lifted, play: &Play, inside: bool, m: &Mono) -> Result<Rule, NoMemory>
-    requires { lifted.now.variables ≤ 6 }
-    ensures { IfOk result (IsRuleIn (curve_of_lifted lifted.now) play.now.corners play.now.border play.now.outer m.now) }
+// The rule by the first variable of the list whose quotient has a place outside the corners; there is one.
+fn multiple_rule(lifted: &Lifted, play: &Play, inside: bool, m: &Mono) -> Rule
+    requires variables { lifted.now.variables ≤ 6 }
+    requires order { AreVariables lifted.now.variables play.now.order.items }
+    requires rising { AreRising play.now.corners play.now.border play.now.outer }
+    requires parent { HasParent lifted.now.variables play.now.border (seen inside play.now.outer) m.now }
+    ensures { IsRuleIn (curve_of_lifted lifted.now) play.now.corners play.now.border play.now.outer m.now result }
 {
-    let variables = lifted.variables();
-    for v in &play.order {
-        if *v < variables {
-            if let Some(rule) = rule_by(play, inside, m, *v) {
-                return Ok(rule);
-            }
+    let _variables = lifted.variables();
+    let order = play.order.as_slice();
+    for k in 0..order.len() {
+        if let Some(rule) = rule_by(play, inside, m, order[k]) {
+            return rule;
         }
     }
-    Err(not_found())
+    unreachable!()
 }
 
 // The rule of the monomial: a lead has that of its polynomial in the basis, and another one comes from a quotient by a variable.
@@ -217,18 +244,18 @@ fn rule_of(
     inside: bool,
     m: &Mono,
 ) -> Result<Rule, NoMemory>
-    requires lifts { AreLifts lifted.now play.now.lifts }
-    requires affine { IsAffine lifted.now.variables m.now }
+    requires play { IsPlay lifted.now play.now }
+    requires m { Contains (chosen inside play.now.border play.now.outer) m.now }
     ensures { IfOk result (IsRuleIn (curve_of_lifted lifted.now) play.now.corners play.now.border play.now.outer m.now) }
 {
     let basis = lifted.sum_basis();
     match with_lead(basis, m) {
         Some(i) => lead_rule(alloc, lifted, play, m, &basis[i], &play.lifts.as_slice()[i]),
-        None => multiple_rule(lifted, play, inside, m),
+        None => Ok(multiple_rule(lifted, play, inside, m)),
     }
 }
 
-// The rules of the monomials.
+// The rules of monomials of the border, or of outer ones.
 pub(crate) fn rules_of(
     alloc: Global,
     lifted: &Lifted,
@@ -236,8 +263,8 @@ pub(crate) fn rules_of(
     inside: bool,
     monomials: &[Mono],
 ) -> Result<List<Rule>, NoMemory>
-    requires lifts { AreLifts lifted.now play.now.lifts }
-    requires affine { All (IsAffine lifted.now.variables) monomials.now }
+    requires play { IsPlay lifted.now play.now }
+    requires each { All (Contains (chosen inside play.now.border play.now.outer)) monomials.now }
     ensures { IfOk result (AreRulesIn (curve_of_lifted lifted.now) play.now.corners play.now.border play.now.outer monomials.now) }
 {
     let mut rules = List::new(alloc);

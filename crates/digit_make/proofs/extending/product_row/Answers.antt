@@ -9,4 +9,4 @@ returns c =
     let g = c.args.digits.now in
     IfSome_then c.border_row.result c.border_row.ensures.some
     (λ row f. product_known g c.args.v c.in_ok-i.i c.in_ok-factor.factor c.args.m.now row.now c.basis.ensures.known
-    (c.in_ok-i.ensures.1 ∙ ap (λ ms. get_or ms c.in_ok-i.i unit) c.basis.ensures.value) c.in_ok-factor.ensures f)
+    (c.in_ok-i.ensures.some.1 ∙ ap (λ ms. get_or ms c.in_ok-i.i unit) c.basis.ensures.value) c.in_ok-factor.ensures.some f)

@@ -1,4 +1,4 @@
-use Rattle.std.proofs.Common.{◌-◌, ◌*◌, ap, ap₂, subst}
+use Rattle.std.proofs.Common.{◌*◌, ap, ap₂, subst}
 use Rattle.digit_make.specs.Making.{AreOuter, AreTrimmed}
 use Rattle.digit_make.proofs.Made.{has_products, has_outer}
 use Rattle.digit_make.proofs.making.digits_from.Goals as goal

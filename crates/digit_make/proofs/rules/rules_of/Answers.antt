@@ -3,6 +3,8 @@ use Rattle.std.proofs.lemmas.List.{length_push, get_or_default}
 use Rattle.monomials.specs.Mono.{unit}
 use Rattle.digit_make.specs.declared.plan.Rule.{Rule}
 use Rattle.digit_make.specs.Making.{curve_of_lifted}
+use Rattle.std.specs.List.{Contains}
+use Rattle.digit_make.specs.Playing.{chosen}
 use Rattle.digit_make.specs.Planned.{IsRuleIn}
 use Rattle.digit_make.proofs.Found.{each_push}
 use Rattle.digit_make.proofs.rules.rules_of.Goals as goal
@@ -22,3 +24,8 @@ loop-i-preserved c =
           (c.index-monomials-i.is ∙ get_or_default c.args.monomials.now c.loop-i.i c.index-monomials-i.result unit c.loop-i-test.true ∙ ap (λ z. get_or c.args.monomials.now z unit) (sym c.loop-i.invariant.count))
           c.in_ok-rule.ensures));
     }
+
+pub rule_of-requires-clause-m : goal.rule_of-requires-clause-m
+rule_of-requires-clause-m c =
+    let list = chosen c.args.inside c.args.play.now.border c.args.play.now.outer in
+    subst (Contains list) (sym c.index-monomials-i.is) (c.requires.each c.loop-i.i c.index-monomials-i.result c.loop-i-test.true)

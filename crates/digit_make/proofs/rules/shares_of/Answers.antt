@@ -1,5 +1,8 @@
 use Rattle.std.proofs.Common.{◌≡◌, ◌+◌, take, sym, subst}
-use Rattle.polys.specs.Terms.{IsCanonical}
+use Rattle.monomials.specs.Mono.{Monomial}
+use Rattle.polys.specs.Terms.{EachMono, IsCanonical}
+use Rattle.digit_make.specs.Playing.{IsInPlay}
+use Rattle.digit_make.proofs.Playing.{each_mono_at}
 use Rattle.digit_make.specs.Planned.{AreSharesIn, terms_in}
 use Rattle.digit_make.proofs.Found.{shares_push}
 use Rattle.digit_make.proofs.rules.shares_of.Goals as goal
@@ -9,9 +12,15 @@ loop-i-preserved c =
     let play = c.args.play.now in
     let ts = c.terms-terms.result.now in
     let p = c.args.f.now.prime in
-    let k = shares_push p play.corners play.border play.outer c.loop-i.shares ts c.loop-i.i c.index-terms-i.result c.in-Some.place
-    (subst (IsCanonical p) (sym c.terms-terms.ensures.value) c.terms-terms.ensures.known.canonical) c.loop-i-test.true c.index-terms-i.is c.in-Some.ensures c.loop-i.invariant.shares c.loop-i.invariant.terms in
+    let k = shares_push p play.corners play.border play.outer c.loop-i.shares ts c.loop-i.i c.index-terms-i.result c.place_of.result
+    (subst (IsCanonical p) (sym c.terms-terms.ensures.value) c.terms-terms.ensures.known.canonical) c.loop-i-test.true c.index-terms-i.is (c.place_of.ensures.place, c.place_of.ensures.monomial) c.loop-i.invariant.shares c.loop-i.invariant.terms in
     record {
-      shares = subst (AreSharesIn p play.corners play.border play.outer) (sym c.in_ok-push-in-Some.ensures.ok) k.0;
-      terms = subst (λ z. terms_in play.corners play.border play.outer z ≡ take (c.loop-i.i + 1) ts) (sym c.in_ok-push-in-Some.ensures.ok) k.1;
+      shares = subst (AreSharesIn p play.corners play.border play.outer) (sym c.in_ok-push.ensures.ok) k.0;
+      terms = subst (λ z. terms_in play.corners play.border play.outer z ≡ take (c.loop-i.i + 1) ts) (sym c.in_ok-push.ensures.ok) k.1;
     }
+
+pub place_of-requires-clause-known : goal.place_of-requires-clause-known
+place_of-requires-clause-known c =
+    let play = c.args.play.now in
+    let P = λ (z : Monomial). IsInPlay play.corners play.border play.outer z in
+    each_mono_at P c.terms-terms.result.now c.loop-i.i c.index-terms-i.result c.loop-i-test.true c.index-terms-i.is (subst (EachMono P) (sym c.terms-terms.ensures.value) c.requires.known)

@@ -1,7 +1,0 @@
-use Rattle.digit_make.proofs.tests.deeper_digits_of_the_cusp.Goals as goal
-
-pub holds_at-requires-clause-fit : goal.holds_at-requires-clause-fit
-holds_at-requires-clause-fit g c = c.in_ok-s.ensures.fit
-
-pub holds_at-requires-clause-lifted : goal.holds_at-requires-clause-lifted
-holds_at-requires-clause-lifted g c = c.in_ok-s.ensures.lifted
