@@ -1,0 +1,7 @@
+-- for this crate alone
+mod Sums
+mod Zeros
+mod Values
+mod Facts
+mod Generators
+mod Taking
