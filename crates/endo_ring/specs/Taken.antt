@@ -8,8 +8,8 @@ use Rattle.row_space.specs.Sums.{Covers}
 use Rattle.row_space.specs.Subspace.{Subspace, IsIn, product}
 use Rattle.digit_laws.specs.Digits.{value, AreDigits}
 
--- q times the row's polynomial is, modulo I and d^2T, d^T times a polynomial with digits in the space: its digits are T blocks of
--- zeros and then a row of the space
+-- q times the row's polynomial is, modulo I and d^2T, d^T times a polynomial with digits in the space: its digits are T
+-- blocks of zeros and then a row of the space
 pub record IsTaken (A : CurveData) (ms : List Monomial) (T : ℕ) (space : Subspace) (q : List Term) (row : List ℕ) : Type 0 where
   pub rest : List ℕ
   pub inside : IsIn space rest
@@ -33,4 +33,5 @@ IsTakenSum space images width rows row =
 -- the digits, of 2T blocks, of q times the polynomial of each row
 pub record AreProducts (A : CurveData) (ms : List Monomial) (T : ℕ) (q : List Term) (rows images : List (List ℕ)) : Type 0 where
   pub count : length images ≡ length rows
-  pub each : (i : ℕ) → i < length rows → AreDigits A ms (T + T) (mul A.prime q (value A ms T (slice_index_or rows i []))) (slice_index_or images i [])
+  pub each : (i : ℕ) → i < length rows
+      → AreDigits A ms (T + T) (mul A.prime q (value A ms T (slice_index_or rows i []))) (slice_index_or images i [])

@@ -16,15 +16,16 @@ use std::sync::Arc;
 
 /// All fractions that take a module J into itself, as a module over d^(k+1), where k is the power of `over`.
 ///
-/// J is given over d^k by `radical`, the digits of its numerators at depth k+1: N (k+1) residues a row, closed under the
-/// variables. The digits have at least 2k+2 blocks.
+/// J is given over d^k by `radical`, the digits of its numerators at depth k+1: N (k+1) residues a row, closed under
+/// the variables. The digits have T blocks, and T is at least 2k+2. `NoMemory` is the one error.
 ///
-/// A fraction takes J into itself exactly where it is some b over d^(k+1) with b in the ideal of J's numerators and with b v in
-/// d^(k+1) times this ideal for each v of its reduced basis. The rows of such b are found by one pass for each v: a product of
-/// v with each corner, N products by a variable; for each row that is left at most N^2 (2k+2)^2 / 2 steps; and one elimination
-/// of rows of 2 N (k+1) entries. Want of memory is the one error.
+/// A fraction takes J into itself exactly where it is some b over d^(k+1) with b in the ideal of J's numerators and
+/// with b v in d^(k+1) times this ideal for each v of its reduced basis. The rows of such b are found by one pass for
+/// each v over the rows that are left: N products by a variable, for each row at most N^2 T^2 / 2 steps, and one
+/// elimination, of these rows and those of J, with 2 N (k+1) entries and one more for each row that is left.
 ///
-/// Greuel and Pfister, section on integral closure, the criterion for normality by the homomorphisms of an ideal.
+/// Greuel and Pfister, section on integral closure: the criterion for normality by the homomorphisms of an ideal into
+/// itself.
 pub fn endomorphisms(digits: &Digits, over: &Over, radical: &Space) -> Result<Over, NoMemory>
     requires curve { digits.now.curve ≡ over.now.curve }
     requires depth { 2 * over.now.power + 2 ≤ digits.now.depth }
