@@ -109,7 +109,6 @@ fn narrowed(
     let width = entries(digits, blocks);
     let rows = present.rows();
     let images = products(digits, blocks, generator, rows)?;
-    let _target = target.rows();
     let found = taken_sums(digits.allocator(), target, images.as_slice(), width, rows)?;
     Ok(found)
 }
