@@ -5,3 +5,5 @@ mod Values
 mod Facts
 mod Generators
 mod Taking
+-- for the tests
+mod ZeroSpace

@@ -10,3 +10,6 @@ mod rows;
 mod spaces;
 
 pub use enlarging::endomorphisms;
+
+#[cfg(test)]
+mod tests;
