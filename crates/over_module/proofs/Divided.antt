@@ -70,9 +70,10 @@ module _ (g : DigitData) (s : IsDigitSpace g) (n k : ℕ) (R : Subspace) (h : Ha
       let high_digits : IsDigitsOf g y (behind_zeros (N * k) t.0) = raise_digits A c g.basis s.corners k E D (N * k) b t.0 m.poly sum refl t.1 in
       let same : AreEqual A f (over y (k + k)) = eq_trans A c f (over b k) (over y (k + k)) hf m.poly hy m.equal (raise_equal A c k k (k + k) b m.poly refl) in
       let hw = poly_mul g.curve.prime g.curve.variables u v (positive g.curve.prime (high A c.curve)) hu hv in
-      let near : InPower A g.depth (sub g.curve.prime (mul g.curve.prime u v) y) = in_more ? in
+      let near : InPower A g.depth (sub g.curve.prime (mul g.curve.prime u v) y) = in_more g.curve.prime g.curve.variables (denominator_power A g.depth) A.ideal (sub g.curve.prime (mul g.curve.prime u v) y)
+      (one_equal_up A c (k + k) (mul g.curve.prime u v) y hw hy same) in
       let is : whole ≡ behind_zeros (N * k) t.0 = laws.unique y whole (behind_zeros (N * k) t.0) hy (laws.same (mul g.curve.prime u v) y whole hw hy near d) high_digits in
-      let cut : drop (N * k) whole ≡ t.0 = ap (drop (N * k)) is ∙ ? in
+      let cut : drop (N * k) whole ≡ t.0 = ap (drop (N * k)) is ∙ subst (λ z. drop z (replicate (N * k) 0 ++ t.0) ≡ t.0) (length-replicate {A = ℕ} (N * k) 0) (drop-append_seam (replicate (N * k) 0) t.0) in
       let front : AreDigits A g.basis (suc k) b (take (N * suc k) t.0) = (block_law A c g.basis s.corners).truncated (suc k) (E - suc k) b t.0 m.poly (let q : E ≡ suc k + (E - suc k) = omega arith in subst (λ z. AreDigits A g.basis z b t.0) q t.1) in
       let row : m.row ≡ take (N * suc k) (drop (N * k) whole) = (digit_law A c g.basis s.corners (suc k)).unique b m.row (take (N * suc k) t.0) m.poly m.digits front ∙ ap (take (N * suc k)) (sym cut) in
       record {

@@ -11,7 +11,7 @@ use Rattle.row_space.specs.Echelon.{IsRow}
 use Rattle.row_space.specs.Subspace.{Subspace, FitsIn, IsIn, DifferIn, IsZeroAtPivots, IsReduced}
 use Rattle.finite_algebra.specs.Elements.{unit_row}
 use Rattle.digit_laws.specs.Digits.{AreDigits}
-use Rattle.digit_space.specs.Model.{DigitData, value_of, width}
+use Rattle.digit_space.specs.Model.{DigitData, IsDigitsOf, value_of, width}
 use Rattle.over_laws.specs.Over.{OverData}
 use Rattle.quotient_laws.specs.ProductRows.{IsProductRow}
 
@@ -45,3 +45,9 @@ pub record AreTimes (g : DigitData) (T : ℕ) (q : List Term) (list made : List 
 pub record AreAllProducts (A : CurveData) (ms : List Monomial) (T : ℕ) (P vs : List (List Term)) (list : List (List ℕ)) : Type 0 where
   pub rows : All (IsProductRow A ms T P vs) list
   pub each : (q v : List Term) → Contains P q → Contains vs v → (row : List ℕ) × AreDigits A ms T (mul A.prime q v) row × Contains list row
+
+-- the row is the blocks from number k on, one more than k, of the digits of f
+pub record IsDividedProduct (g : DigitData) (k : ℕ) (f : List Term) (made : List ℕ) : Type 0 where
+  pub whole : List ℕ
+  pub digits : IsDigitsOf g f whole
+  pub part : made ≡ take (length g.basis * suc k) (drop (length g.basis * k) whole)

@@ -36,7 +36,7 @@ pub fn base_algebra(digits: &Digits) -> Result<Algebra, NoMemory>
 }
 
 // The digits of 1.
-fn one_row(digits: &Digits) -> Result<List<u32>, NoMemory>
+pub(crate) fn one_row(digits: &Digits) -> Result<List<u32>, NoMemory>
     ensures { IfOk result (λ row. IsDigitsOf digits.now one row) }
 {
     let prime = digits.curve().prime;

@@ -1,19 +1,24 @@
 // A ring of fractions modulo its products with a point.
-ghost use Rattle.std.specs.Prelude.{◌≡◌, ◌≤◌, ◌<◌, ◌-◌, ◌*◌, ◌++◌, ℕ, suc, List, [], map, length, replicate, slice_index_or, All, IfOk, OnOk};
+ghost use Rattle.std.specs.Prelude.{◌≡◌, ◌≤◌, ◌<◌, ◌+◌, ◌-◌, ◌*◌, ◌++◌, ℕ, suc, List, [], map, length, replicate, slice_index_or, All, IfOk, OnOk};
+ghost use Rattle.polys.specs.declared.term.Term.{Term};
+ghost use Rattle.polys.specs.Terms.{IsPoly, mul};
 ghost use Rattle.polys.specs.Curve.{IsOver, data_of};
 ghost use Rattle.digit_space.specs.Adding.{AreMultiples};
 ghost use Rattle.digit_space.specs.Model.{IsDigitRow, IsDigitSpace, value_of};
 ghost use Rattle.row_space.specs.Subspace.{FitsIn};
 ghost use Rattle.finite_algebra.specs.Elements.{unit_row};
+ghost use Rattle.curve_model.specs.Fraction.{denominator_power};
 ghost use Rattle.curve_model.specs.Point.{IsPointOf, basis_of};
+ghost use Rattle.digit_laws.specs.Digits.{AreDigits};
 ghost use Rattle.curve_model.specs.Rings.{IsFractionRing};
 ghost use Rattle.over_laws.specs.Over.{InOver};
 ghost use Rattle.quotient_laws.specs.OverQuotients.{HoldsProducts};
 ghost use Rattle.quotient_laws.specs.ProductRows.{IsProductSpace};
-ghost use Rattle.over_module.specs.Quotients.{AreAllProducts, AreGenerators, AreTimes, HasFronts, HoldsNumerators};
+ghost use Rattle.over_module.specs.Quotients.{AreAllProducts, AreGenerators, IsDividedProduct, AreTimes, HasFronts, HoldsNumerators};
 
+use super::base::one_row;
 use super::over::Over;
-use super::raising::spanned;
+use super::raising::{behind, spanned};
 use curve_model::Point;
 use digit_space::Digits;
 use lists::{List, NoMemory};
@@ -214,4 +219,38 @@ impl Over {
         let space = product_space(digits, self.power() + 1, factors, rows.as_slice())?;
         Ok(space)
     }
+}
+
+// The blocks from number `blocks` on, one more than so many, of the product of the polynomial, whose products with the corners are
+// given, and that of the row.
+fn divided_product(
+    digits: &Digits,
+    blocks: u32,
+    multiples: &[List<u32>],
+    row: &[u32],
+) -> Result<List<u32>, NoMemory>
+    requires blocks { blocks + suc blocks ≤ digits.now.depth }
+    requires count { length multiples.now ≡ length digits.now.basis }
+    requires multiples { (f : List Term) × IsPoly digits.now.curve.prime digits.now.curve.variables f × AreMultiples digits.now f multiples.now }
+    requires row { IsDigitRow digits.now row.now }
+    ensures { IfOk result (λ made. (f : List Term) → IsPoly digits.now.curve.prime digits.now.curve.variables f → AreMultiples digits.now f multiples.now
+        → IsDividedProduct digits.now blocks (mul digits.now.curve.prime f (value_of digits.now row.now)) made) }
+{
+    let first = entries(digits, blocks);
+    let end = entries(digits, blocks + blocks + 1);
+    let whole = digits.product_by(row, multiples)?;
+    let made = List::from_slice(digits.allocator(), &whole.as_slice()[first..end])?;
+    Ok(made)
+}
+
+// The digits of d^`power` at the depth that is one more: blocks of zeros, and then the first block of the digits of 1.
+fn power_row(digits: &Digits, power: u32) -> Result<List<u32>, NoMemory>
+    requires { power < digits.now.depth }
+    ensures { IfOk result (AreDigits (data_of digits.now.curve) digits.now.basis (suc power) (denominator_power (data_of digits.now.curve) power)) }
+{
+    let zeros = entries(digits, power);
+    let corners = entries(digits, 1);
+    let one = one_row(digits)?;
+    let row = behind(digits.allocator(), zeros, &one.as_slice()[..corners])?;
+    Ok(row)
 }
