@@ -10,3 +10,5 @@ pub mod IdempotentLaws
 pub mod IdealLaws
 pub mod Relations
 pub mod Worked
+pub mod Places
+pub mod FrameLaws

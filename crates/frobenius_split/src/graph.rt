@@ -16,7 +16,7 @@ use row_space::{Insert, Space};
 use std::alloc::Global;
 
 // The left row followed by the right one.
-fn pair(alloc: Global, left: &[u32], right: &[u32]) -> Result<Vec<u32>, NoMemory>
+pub(crate) fn pair(alloc: Global, left: &[u32], right: &[u32]) -> Result<Vec<u32>, NoMemory>
     ensures { IfOk result (λ row. row.items ≡ left.now ++ right.now) }
 {
     let mut row = copy_of(alloc, left)?;
@@ -150,7 +150,7 @@ fn close(
 }
 
 // The row of the opposites.
-fn opposite(alloc: Global, prime: Prime, row: &[u32]) -> Result<List<u32>, NoMemory>
+pub(crate) fn opposite(alloc: Global, prime: Prime, row: &[u32]) -> Result<List<u32>, NoMemory>
     requires { AreResidues prime row.now }
     ensures opposites { IfOk result (λ made. made ≡ map (λ x. (prime - x) % prime) row.now) }
     ensures residues { IfOk result (λ made. AreResidues prime made) }

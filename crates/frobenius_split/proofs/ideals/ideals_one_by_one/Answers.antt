@@ -4,7 +4,7 @@ use Rattle.std.proofs.lemmas.List.{get_or_append_left, get_or_default, get_or_pu
 use Rattle.row_space.specs.Subspace.{Subspace}
 use Rattle.frobenius_split.specs.Points.{at}
 use Rattle.frobenius_split.specs.Idempotents.{IsIdealAt}
-use Rattle.frobenius_split.proofs.ideals.ideals_at.Goals as goal
+use Rattle.frobenius_split.proofs.ideals.ideals_one_by_one.Goals as goal
 
 pub loop-i-preserved : goal.loop-i-preserved
 loop-i-preserved c = record {

@@ -1,7 +1,7 @@
 use Rattle.std.proofs.Common.{◌≡◌, ◌<◌, ℕ, [], length, get_or}
 use Rattle.frobenius_split.specs.Points.{at}
 use Rattle.frobenius_split.specs.Idempotents.{IsIdealAt}
-use Rattle.frobenius_split.proofs.ideals.ideals_at.Given as goal
+use Rattle.frobenius_split.proofs.ideals.ideals_one_by_one.Given as goal
 
 abbrev pub invariant-loop-i : goal.invariant-loop-i
 invariant-loop-i l = record {

@@ -1,0 +1,30 @@
+-- Elements that lie in the parts of idempotents, and coordinates by them.
+use Rattle.std.specs.Prelude.{◌≡◌, ℕ, ◌<◌, List, [], length, slice_index, slice_index_or}
+use Rattle.std.specs.List.{All}
+use Rattle.row_space.specs.Echelon.{IsRow}
+use Rattle.row_space.specs.Subspace.{product}
+use Rattle.finite_algebra.specs.Elements.{FiniteAlgebra, IsElement, elements, times, unit_row}
+
+-- beside each element stands the number of an idempotent whose product with it is the element
+pub record IsFrame (A : FiniteAlgebra) (es us : List (List ℕ)) (numbers : List ℕ) : Type 0 where
+  pub count : length numbers ≡ length us
+  pub rows : All (IsElement A) us
+  pub inside : (j : ℕ) → j < length us → (slice_index numbers j < length es) × (elements A).◌≋◌ (times A (slice_index_or us j []) (slice_index_or es (slice_index numbers j) [])) (slice_index_or us j [])
+
+-- each row times the other matrix is the unit row with its number
+abbrev pub GivesUnits : (p n : ℕ) (rows matrix : List (List ℕ)) → Type 0
+GivesUnits p n rows matrix = (j : ℕ) → j < n → product p n (slice_index_or rows j []) matrix ≡ unit_row n j
+
+-- n rows of n residues, and the inverse of their matrix
+pub record IsInverse (p n : ℕ) (rows inverse : List (List ℕ)) : Type 0 where
+  pub long : length rows ≡ n
+  pub count : length inverse ≡ n
+  pub fits : All (IsRow p n) inverse
+  pub left : GivesUnits p n rows inverse
+  pub right : GivesUnits p n inverse rows
+
+-- the places below n at which the number k stands, all of them
+pub record ArePlacesOf (numbers : List ℕ) (n k : ℕ) (places : List ℕ) : Type 0 where
+  pub within : (t : ℕ) → t < length places → slice_index places t < n
+  pub own : (t : ℕ) → t < length places → slice_index numbers (slice_index places t) ≡ k
+  pub all : (j : ℕ) → j < n → slice_index numbers j ≡ k → (t : ℕ) × (t < length places) × slice_index places t ≡ j
