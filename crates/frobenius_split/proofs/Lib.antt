@@ -11,4 +11,5 @@ pub mod IdealLaws
 pub mod Relations
 pub mod Worked
 pub mod Places
+pub mod KernelLaws
 pub mod FrameLaws

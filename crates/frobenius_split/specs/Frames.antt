@@ -4,6 +4,7 @@ use Rattle.std.specs.List.{All}
 use Rattle.row_space.specs.Echelon.{IsRow}
 use Rattle.row_space.specs.Subspace.{product}
 use Rattle.finite_algebra.specs.Elements.{FiniteAlgebra, IsElement, elements, times, unit_row}
+use Rattle.frobenius_split.specs.Parts.{IsLess}
 
 -- beside each element stands the number of an idempotent whose product with it is the element
 pub record IsFrame (A : FiniteAlgebra) (es us : List (List ℕ)) (numbers : List ℕ) : Type 0 where
@@ -28,3 +29,23 @@ pub record ArePlacesOf (numbers : List ℕ) (n k : ℕ) (places : List ℕ) : Ty
   pub within : (t : ℕ) → t < length places → slice_index places t < n
   pub own : (t : ℕ) → t < length places → slice_index numbers (slice_index places t) ≡ k
   pub all : (j : ℕ) → j < n → slice_index numbers j ≡ k → (t : ℕ) × (t < length places) × slice_index places t ≡ j
+
+-- the rows with these numbers
+pub record AreRowsAt (us : List (List ℕ)) (places : List ℕ) (made : List (List ℕ)) : Type 0 where
+  pub count : length made ≡ length places
+  pub rows : (t : ℕ) → t < length places → slice_index_or made t [] ≡ slice_index_or us (slice_index places t) []
+
+-- the unit rows with these numbers
+pub record AreUnitsAt (n : ℕ) (places : List ℕ) (made : List (List ℕ)) : Type 0 where
+  pub count : length made ≡ length places
+  pub rows : (t : ℕ) → t < length places → slice_index_or made t [] ≡ unit_row n (slice_index places t)
+
+-- the unit row i without the sum of the units, each times its entry of the product of the row with the inverse
+abbrev pub IsRest : (p n i : ℕ) (row : List ℕ) (inverse units : List (List ℕ)) → List ℕ → Type 0
+IsRest p n i row inverse units made = IsLess p n (unit_row n i) 1 (product p n (product p (length units) row inverse) units) made
+
+-- the same for each row
+pub record AreRests (p : ℕ) (us inverse units : List (List ℕ)) (k : ℕ) (made : List (List ℕ)) : Type 0 where
+  pub count : length made ≡ k
+  pub rows : All (IsRow p (length us)) made
+  pub rests : (i : ℕ) → i < k → IsRest p (length us) i (slice_index_or us i []) inverse units (slice_index_or made i [])

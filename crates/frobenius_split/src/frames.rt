@@ -7,13 +7,14 @@ ghost use Rattle.frobenius_split.specs.Points.{IsRadicalOf, at};
 ghost use Rattle.frobenius_split.specs.Idempotents.{AreIdempotents, IsIdealAt};
 ghost use Rattle.frobenius_split.specs.Frames.{ArePlacesOf, IsFrame, IsInverse};
 
+use super::backward::kernel_backward;
 use super::idempotents::mixture;
 use super::inverses::inverse_of;
 use super::polynomials::product_with;
 use super::rows::copy_of;
 use finite_algebra::Algebra;
 use lists::{List, NoMemory};
-use row_space::{Insert, Space, kernel};
+use row_space::{Insert, Space};
 use std::alloc::Global;
 
 // Elements, and beside each the number of an idempotent whose product with it is the element.
@@ -291,7 +292,7 @@ fn ideal_of(
     let _p = a.prime().get();
     let places = places_of(alloc, frame.numbers.as_slice(), k)?;
     let values = columns(alloc, places.as_slice(), inverse)?;
-    let space = kernel(alloc, a.prime(), values.as_slice(), places.len())?;
+    let space = kernel_backward(alloc, a.prime(), values.as_slice(), places.len())?;
     Ok(space)
 }
 

@@ -6,8 +6,8 @@ use Rattle.frobenius_split.proofs.Stages.{kernel_members}
 use Rattle.frobenius_split.proofs.FrameLaws.{columns_fit, ideal_by_columns}
 use Rattle.frobenius_split.proofs.frames.ideal_of.Goals as goal
 
-pub kernel-requires : goal.kernel-requires
-kernel-requires c =
+pub kernel_backward-requires : goal.kernel_backward-requires
+kernel_backward-requires c =
     let A = c.args.a.now in
     let qs = c.args.inverse.now in
     let F = c.args.frame.now in
