@@ -23,10 +23,11 @@ use Rattle.finite_algebra.proofs.Totals.{IsLinear, linear-origin, linear_then, t
 use Rattle.finite_algebra.proofs.Units.{along-unit, agree, unit-other}
 use Rattle.finite_algebra.proofs.Images.{product-along, product_linear}
 use Rattle.finite_algebra.proofs.Products.{left_linear}
-use Rattle.frobenius_split.specs.Points.{IsRadicalOf}
+use Rattle.frobenius_map.specs.Nilpotent.{IsRadicalOf}
 use Rattle.frobenius_split.specs.Idempotents.{AreIdempotents, IsIdealAt}
-use Rattle.frobenius_split.specs.Frames.{ArePlacesOf, IsFrame, IsInverse}
-use Rattle.frobenius_split.proofs.Ground as Ground
+use Rattle.frobenius_split.specs.Frames.{ArePlacesOf, IsFrame}
+use Rattle.row_matrices.specs.Inverses.{IsInverse}
+use Rattle.frobenius_map.proofs.Ground as Ground
 use Rattle.frobenius_split.proofs.IdempotentLaws.{orthogonal_at, radical_ideal}
 
 -- one more element and its number

@@ -1,9 +1,5 @@
-pub mod Ground
 pub mod Deciding
-pub mod Adding
 pub mod Spans
-pub mod GraphLaws
-pub mod Stages
 pub mod SplitLaws
 pub mod AllMaximal
 pub mod IdempotentLaws
@@ -11,5 +7,4 @@ pub mod IdealLaws
 pub mod Relations
 pub mod Worked
 pub mod Places
-pub mod KernelLaws
 pub mod FrameLaws

@@ -3,17 +3,17 @@
 ghost use Rattle.std.specs.Prelude.{◌≡◌, ℕ, ◌++◌, ◌∷◌, ◌<◌, [], length, slice_index, slice_index_or, map, All, IfOk, OnOk, MatchOption};
 ghost use Rattle.row_space.specs.Echelon.{IsRow, entries_at};
 ghost use Rattle.finite_algebra.specs.Elements.{AreProducts, IsElement, elements, times};
-ghost use Rattle.frobenius_split.specs.Points.{IsRadicalOf, at};
+ghost use Rattle.frobenius_map.specs.Nilpotent.{IsRadicalOf};
+ghost use Rattle.frobenius_split.specs.Points.{at};
 ghost use Rattle.frobenius_split.specs.Idempotents.{AreIdempotents, IsIdealAt};
-ghost use Rattle.frobenius_split.specs.Frames.{ArePlacesOf, IsFrame, IsInverse};
+ghost use Rattle.frobenius_split.specs.Frames.{ArePlacesOf, IsFrame};
+ghost use Rattle.row_matrices.specs.Inverses.{IsInverse};
 
-use super::backward::kernel_backward;
 use super::idempotents::mixture;
-use super::inverses::inverse_of;
 use super::polynomials::product_with;
-use super::rows::copy_of;
 use finite_algebra::Algebra;
 use lists::{List, NoMemory};
+use row_matrices::{copy_of, inverse_of, kernel_backward};
 use row_space::{Insert, Space};
 use std::alloc::Global;
 

@@ -1,7 +1,8 @@
 // The ideals at idempotents.
 ghost use Rattle.std.specs.Prelude.{◌≡◌, ℕ, ◌<◌, [], length, slice_index_or, All, IfOk};
 ghost use Rattle.finite_algebra.specs.Elements.{IsElement};
-ghost use Rattle.frobenius_split.specs.Points.{IsRadicalOf, at};
+ghost use Rattle.frobenius_map.specs.Nilpotent.{IsRadicalOf};
+ghost use Rattle.frobenius_split.specs.Points.{at};
 ghost use Rattle.frobenius_split.specs.Idempotents.{AreIdempotents, IsIdealAt};
 
 use super::frames::ideals_by_frame;

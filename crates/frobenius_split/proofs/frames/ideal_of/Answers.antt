@@ -2,7 +2,7 @@ use Rattle.std.proofs.Common.{◌∙◌, ◌<◌, ℕ, List, length, get_or, map
 use Rattle.prime_field.specs.Primes.{IsPrime}
 use Rattle.row_space.specs.Echelon.{IsRow, entries_at}
 use Rattle.frobenius_split.specs.Frames.{ArePlacesOf}
-use Rattle.frobenius_split.proofs.Stages.{kernel_members}
+use Rattle.frobenius_map.proofs.Stages.{kernel_members}
 use Rattle.frobenius_split.proofs.FrameLaws.{columns_fit, ideal_by_columns}
 use Rattle.frobenius_split.proofs.frames.ideal_of.Goals as goal
 
