@@ -323,8 +323,8 @@ fn ideals_of(
 /// The ideals at the idempotents, where elements in their parts and the nilpotent elements were found to
 /// be a basis of the algebra.
 ///
-/// With r idempotents it takes a matrix of multiplication for each element that was tried, about 5 n^3
-/// steps once, and n^2 steps for each dimension of a residue field.
+/// It takes a matrix of multiplication for each element that was tried, some 5 n^3 steps once, and n^2
+/// steps for each dimension of a residue field.
 pub(crate) fn ideals_by_frame(
     alloc: Global,
     a: &Algebra,
