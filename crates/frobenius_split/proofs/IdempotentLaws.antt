@@ -13,11 +13,13 @@ use Rattle.finite_algebra.specs.Projections.{IsIdealOf}
 use Rattle.finite_algebra.proofs.Generated.{moved}
 use Rattle.finite_algebra.proofs.Products.{reduced, reduced_fits, times_fits}
 use Rattle.frobenius_laws.proofs.Ideals.{InOrInverse, is_radical}
-use Rattle.frobenius_split.specs.Points.{AreMaximalIdeals, IsMaximalIdeal, IsNilpotent, IsRadicalOf, at}
-use Rattle.frobenius_split.specs.Parts.{AreParts, ArePulledApart, HasValue, IsPart, IsWithin, number_of}
+use Rattle.frobenius_split.specs.Points.{AreMaximalIdeals, IsMaximalIdeal, at}
+use Rattle.frobenius_map.specs.Nilpotent.{IsNilpotent, IsRadicalOf}
+use Rattle.frobenius_split.specs.Parts.{AreParts, ArePulledApart, HasValue, IsPart, number_of}
+use Rattle.frobenius_map.specs.Powers.{IsWithin}
 use Rattle.frobenius_split.specs.Idempotents.{AreIdempotents, AreIdempotentsIn, AreIdempotentsOf, AreOrthogonal, IsIdealAt, IsNumberAt, sum_of}
 use Rattle.frobenius_split.proofs.AllMaximal.{maximal_inverse, maximal_proper}
-use Rattle.frobenius_split.proofs.Ground as Ground
+use Rattle.frobenius_map.proofs.Ground as Ground
 
 -- what holds of two lists together holds of each
 pub all_left : {X : Type 0} (P : X → Type 0) (xs ys : List X) → All P (xs ++ ys) → All P xs

@@ -1,12 +1,10 @@
-pub mod Ground
 pub mod Deciding
-pub mod Adding
 pub mod Spans
-pub mod GraphLaws
-pub mod Stages
 pub mod SplitLaws
 pub mod AllMaximal
 pub mod IdempotentLaws
 pub mod IdealLaws
 pub mod Relations
 pub mod Worked
+pub mod Places
+pub mod FrameLaws

@@ -10,7 +10,7 @@ use Rattle.comm_ring.proofs.Quote.{ring, ring_by, fact, quote}
 use Rattle.row_space.specs.Subspace.{IsZero, product}
 use Rattle.finite_algebra.specs.Elements.{FiniteAlgebra, IsAlgebra, elements, ring_of}
 use Rattle.frobenius_split.specs.Parts.{polynomial}
-use Rattle.frobenius_split.proofs.Ground as Ground
+use Rattle.frobenius_map.proofs.Ground as Ground
 
 -- an image does not depend on how its parts are written
 pub image_of : (p p' n n' : ℕ) (v v' : List ℕ) (matrix : List (List ℕ)) (w : List ℕ) → w ≡ product p n v matrix → p ≡ p' → n ≡ n' → v ≡ v' → w ≡ product p' n' v' matrix

@@ -4,7 +4,8 @@ use Rattle.std.specs.List.{All}
 use Rattle.comm_ring.specs.Ring.{pow}
 use Rattle.row_space.specs.Subspace.{Subspace, IsIn, IsZero, DifferIn}
 use Rattle.finite_algebra.specs.Elements.{FiniteAlgebra, IsElement, elements, ring_of, times}
-use Rattle.frobenius_split.specs.Points.{IsNilpotent, at}
+use Rattle.frobenius_map.specs.Nilpotent.{IsNilpotent}
+use Rattle.frobenius_split.specs.Points.{at}
 use Rattle.frobenius_split.specs.Parts.{less_number}
 
 -- the members added up

@@ -5,14 +5,15 @@ ghost use Rattle.lane_rows.specs.Rows.{AreResidues, IsZeroRow};
 ghost use Rattle.row_space.specs.Subspace.{IsIn, IsZero};
 ghost use Rattle.finite_algebra.specs.Elements.{AreProducts, IsElement, elements, times};
 ghost use Rattle.frobenius_split.specs.Idempotents.{AreDivided, AreEigenparts, AreIdempotents, AreIdempotentsIn, IsFixed, IsNumberAt, lowered_by};
-ghost use Rattle.frobenius_split.specs.Parts.{AreFixed, less_number, polynomial};
+ghost use Rattle.frobenius_map.specs.Powers.{AreFixed};
+ghost use Rattle.frobenius_split.specs.Parts.{less_number, polynomial};
 
 use super::polynomials::{product_with, value_at, vanishing};
-use super::rows::{copy_of, less_multiple, scaled, single};
 use finite_algebra::{Algebra, image};
 use lane_rows::first_nonzero;
 use lists::{List, NoMemory};
 use prime_field::Prime;
+use row_matrices::{copy_of, less_multiple, scaled, single};
 use row_space::Space;
 use std::alloc::Global;
 

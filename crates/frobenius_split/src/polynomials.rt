@@ -8,10 +8,10 @@ ghost use Rattle.finite_algebra.specs.Elements.{AreProducts, IsElement, elements
 ghost use Rattle.frobenius_split.specs.Parts.{polynomial};
 ghost use Rattle.frobenius_split.specs.Parts.{value as value_of};
 
-use super::rows::copy_of;
 use finite_algebra::{Algebra, image};
 use lists::{List, NoMemory};
 use prime_field::Prime;
+use row_matrices::copy_of;
 use row_space::{Insert, Space, kernel};
 use std::alloc::Global;
 

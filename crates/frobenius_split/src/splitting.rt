@@ -1,14 +1,14 @@
 // The radical, and the maximal ideals.
 ghost use Rattle.std.specs.Prelude.{◌≡◌, ◌+◌, ◌<◌, length, map, All, IfOk};
-ghost use Rattle.frobenius_split.specs.Points.{IsRadicalOf, IsMaximalIdeal, AreMaximalIdeals};
+ghost use Rattle.frobenius_map.specs.Nilpotent.{IsRadicalOf};
+ghost use Rattle.frobenius_split.specs.Points.{IsMaximalIdeal, AreMaximalIdeals};
 ghost use Rattle.frobenius_split.specs.Idempotents.{AreIdempotentsOf};
 
-use super::frobenius::{fixed_elements, nilpotent_elements};
-use super::graph::powers;
 use super::ideals::ideals_at;
 use super::idempotents::idempotents;
 use super::parts_are_maximal;
 use finite_algebra::Algebra;
+use frobenius_map::{fixed_elements, nilpotent_elements, powers};
 use lists::{List, NoMemory};
 use row_space::Space;
 use std::alloc::Global;
@@ -67,7 +67,8 @@ pub(crate) fn maximal_ideals(
 ///
 /// The elements that the p-th power fixes split the one into idempotents, by polynomials in one of them
 /// and their roots; a maximal ideal holds the elements whose product with one idempotent is nilpotent.
-/// It takes a matrix of multiplication for each idempotent, and few others nearly always.
+/// It takes few matrices of multiplication and eliminations nearly always, n^3 steps each, and n^2 steps for
+/// each dimension of a residue field.
 pub fn points(a: &Algebra) -> Result<List<SplitPoint>, NoMemory>
     ensures ideals { IfOk result (λ points. AreMaximalIdeals a.now (map (λ point. point.space) points)) }
     ensures degrees { IfOk result (λ points. All (λ point. point.degree + length point.space.basis ≡ a.now.dimension) points) }

@@ -1,0 +1,2 @@
+pub mod Nilpotent
+pub mod Powers

@@ -1,0 +1,3 @@
+-- for this crate alone
+mod Adding
+mod KernelLaws

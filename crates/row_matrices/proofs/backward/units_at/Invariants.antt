@@ -1,0 +1,9 @@
+use Rattle.std.proofs.Common.{◌≡◌, ◌<◌, ℕ, [], length, get_or}
+use Rattle.finite_algebra.specs.Elements.{unit_row}
+use Rattle.row_matrices.proofs.backward.units_at.Given as goal
+
+abbrev pub invariant-loop-t : goal.invariant-loop-t
+invariant-loop-t l = record {
+  count : length l.made ≡ l.t;
+  rows : (s : ℕ) → s < l.t → get_or l.made s [] ≡ unit_row l.n (get_or l.places s 0);
+}
