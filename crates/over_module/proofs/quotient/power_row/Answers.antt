@@ -26,4 +26,4 @@ returns c =
     let d : AreDigits A g.basis 1 one front = front_digits g s 1 some one (one_poly A (finite g s)) c.in_ok-one.one c.in_ok-one.ensures in
     let e : AreDigits A g.basis (suc k) (raise A k one) (behind_zeros (N * k) front) =
     raise_digits A (finite g s) g.basis s.corners k 1 (suc k) (N * k) one front (one_poly A (finite g s)) (let q : suc k ≡ k + 1 = omega arith in q) refl d in
-    subst (AreDigits A g.basis (suc k) (denominator_power A k)) (sym ?) (subst (λ f. AreDigits A g.basis (suc k) f (behind_zeros (N * k) front)) (raise_one A k) e)
+    subst (AreDigits A g.basis (suc k) (denominator_power A k)) (sym (c.in_ok-row.ensures ∙ ap₂ behind_zeros c.entries-zeros.ensures.value (ap₂ take c.entries-corners.ensures.value c.as_slice.ensures))) (subst (λ f. AreDigits A g.basis (suc k) f (behind_zeros (N * k) front)) (raise_one A k) e)
