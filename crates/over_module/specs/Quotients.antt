@@ -13,7 +13,8 @@ use Rattle.finite_algebra.specs.Elements.{unit_row}
 use Rattle.digit_laws.specs.Digits.{AreDigits}
 use Rattle.digit_space.specs.Model.{DigitData, IsDigitsOf, value_of, width}
 use Rattle.over_laws.specs.Over.{OverData}
-use Rattle.quotient_laws.specs.ProductRows.{IsProductRow}
+use Rattle.quotient_laws.specs.ProductRows.{IsProductRow as IsRowOfProduct}
+use Rattle.over_module.specs.Complements.{AreCoordinates, IsOver}
 
 -- the basis rows of m entries, each with zeros behind it up to w entries, and then the unit rows for so many places from m on
 pub record AreFirstGenerators (m w many : ℕ) (basis made : List (List ℕ)) : Type 0 where
@@ -43,7 +44,7 @@ pub record AreTimes (g : DigitData) (T : ℕ) (q : List Term) (list made : List 
 
 -- each row has the digits of a product of a member of P and one of vs, and each such product has a row
 pub record AreAllProducts (A : CurveData) (ms : List Monomial) (T : ℕ) (P vs : List (List Term)) (list : List (List ℕ)) : Type 0 where
-  pub rows : All (IsProductRow A ms T P vs) list
+  pub rows : All (IsRowOfProduct A ms T P vs) list
   pub each : (q v : List Term) → Contains P q → Contains vs v → (row : List ℕ) × AreDigits A ms T (mul A.prime q v) row × Contains list row
 
 -- the row is the blocks from number k on, one more than k, of the digits of f
@@ -51,3 +52,26 @@ pub record IsDividedProduct (g : DigitData) (k : ℕ) (f : List Term) (made : Li
   pub whole : List ℕ
   pub digits : IsDigitsOf g f whole
   pub part : made ≡ take (length g.basis * suc k) (drop (length g.basis * k) whole)
+
+-- the row x has the coordinates of the product of u and v divided by d^k
+pub record IsProductRow (g : DigitData) (k : ℕ) (products rest : Subspace) (u v : List Term) (x : List ℕ) : Type 0 where
+  pub divided : List ℕ
+  pub part : IsDividedProduct g k (mul g.curve.prime u v) divided
+  pub coordinates : AreCoordinates products rest divided x
+
+-- the coordinates of the products of u and the polynomials of the first rows
+pub record AreProductsWith (g : DigitData) (k : ℕ) (products rest : Subspace) (u : List Term) (many : ℕ) (list made : List (List ℕ)) : Type 0 where
+  pub count : length made ≡ many
+  pub each : (j : ℕ) → j < many → IsProductRow g k products rest u (value_of g (slice_index_or list j [])) (slice_index_or made j [])
+
+-- the row i n + j of the table has the coordinates of the product of the polynomials of the rows i and j, for the first rows i
+pub record IsProductTable (g : DigitData) (k : ℕ) (products rest : Subspace) (list : List (List ℕ)) (first : ℕ) (table : List (List ℕ)) : Type 0 where
+  pub count : length table ≡ first * length list
+  pub each : (i j : ℕ) → i < first → j < length list
+      → IsProductRow g k products rest (value_of g (slice_index_or list i [])) (value_of g (slice_index_or list j [])) (slice_index_or table (i * length list + j) [])
+
+-- what the divided products of the rows are, has coordinates
+abbrev pub HasCoordinates : DigitData → ℕ → Subspace → Subspace → List (List ℕ) → Type 0
+HasCoordinates g k products rest list =
+    (i j : ℕ) → i < length list → j < length list → (made : List ℕ)
+    → IsDividedProduct g k (mul g.curve.prime (value_of g (slice_index_or list i [])) (value_of g (slice_index_or list j []))) made → IsOver products rest made

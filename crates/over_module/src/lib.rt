@@ -5,12 +5,14 @@
 mod adding;
 mod base;
 mod comparing;
+mod complement;
 mod done;
 mod lowering;
 mod over;
 mod plain;
 mod quotient;
 mod raising;
+mod table;
 
 pub use base::base_algebra;
 pub use done::{Done, Verdict};

@@ -1,7 +1,6 @@
 // A ring of fractions modulo its products with a point.
-ghost use Rattle.std.specs.Prelude.{◌≡◌, ◌≤◌, ◌<◌, ◌+◌, ◌-◌, ◌*◌, ◌++◌, ℕ, suc, List, [], map, length, replicate, slice_index_or, All, IfOk, OnOk};
-ghost use Rattle.polys.specs.declared.term.Term.{Term};
-ghost use Rattle.polys.specs.Terms.{IsPoly, mul};
+ghost use Rattle.std.specs.Prelude.{◌≡◌, ◌≤◌, ◌<◌, ◌+◌, ◌-◌, ◌*◌, ◌++◌, ℕ, suc, List, [], map, take, drop, length, replicate, slice_index_or, All, IfOk, OnOk};
+ghost use Rattle.polys.specs.Terms.{mul};
 ghost use Rattle.polys.specs.Curve.{IsOver, data_of};
 ghost use Rattle.digit_space.specs.Adding.{AreMultiples};
 ghost use Rattle.digit_space.specs.Model.{IsDigitRow, IsDigitSpace, value_of};
@@ -221,25 +220,36 @@ impl Over {
     }
 }
 
-// The blocks from number `blocks` on, one more than so many, of the product of the polynomial, whose products with the corners are
-// given, and that of the row.
-fn divided_product(
+// So many entries of the row, after the first ones.
+fn part_of(alloc: Global, row: &[u32], first: usize, many: usize) -> Result<List<u32>, NoMemory>
+    requires { first + many ≤ length row.now }
+    ensures { IfOk result (λ made. made ≡ take many (drop first row.now)) }
+{
+    let rest = &row[first..];
+    let made = List::from_slice(alloc, &rest[..many])?;
+    Ok(made)
+}
+
+// The blocks from number `blocks` on, one more than so many, of the product of the factor, whose products with the corners are
+// given, and the row.
+pub(crate) fn divided_product(
     digits: &Digits,
     blocks: u32,
+    factor: &[u32],
     multiples: &[List<u32>],
     row: &[u32],
 ) -> Result<List<u32>, NoMemory>
     requires blocks { blocks + suc blocks ≤ digits.now.depth }
+    requires factor { IsDigitRow digits.now factor.now }
     requires count { length multiples.now ≡ length digits.now.basis }
-    requires multiples { (f : List Term) × IsPoly digits.now.curve.prime digits.now.curve.variables f × AreMultiples digits.now f multiples.now }
+    requires multiples { AreMultiples digits.now (value_of digits.now factor.now) multiples.now }
     requires row { IsDigitRow digits.now row.now }
-    ensures { IfOk result (λ made. (f : List Term) → IsPoly digits.now.curve.prime digits.now.curve.variables f → AreMultiples digits.now f multiples.now
-        → IsDividedProduct digits.now blocks (mul digits.now.curve.prime f (value_of digits.now row.now)) made) }
+    ensures { IfOk result (IsDividedProduct digits.now blocks (mul digits.now.curve.prime (value_of digits.now factor.now) (value_of digits.now row.now))) }
 {
     let first = entries(digits, blocks);
-    let end = entries(digits, blocks + blocks + 1);
+    let width = entries(digits, blocks + 1);
     let whole = digits.product_by(row, multiples)?;
-    let made = List::from_slice(digits.allocator(), &whole.as_slice()[first..end])?;
+    let made = part_of(digits.allocator(), whole.as_slice(), first, width)?;
     Ok(made)
 }
 
