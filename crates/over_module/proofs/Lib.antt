@@ -21,3 +21,5 @@ mod Times
 mod ProductLists
 mod Numerators
 mod Divided
+mod Tables
+mod QuotientParts

@@ -37,3 +37,62 @@ fn product_coordinates(
     let found = coordinates(digits.allocator(), products, rest, divided.as_slice())?;
     Ok(found)
 }
+
+// The coordinates of the products of the factor and each row.
+fn products_with(
+    digits: &Digits,
+    power: u32,
+    products: &Space,
+    rest: &mut Space,
+    factor: &[u32],
+    rows: &[List<u32>],
+) -> Result<List<List<u32>>, NoMemory>
+    requires power { power + suc power ≤ digits.now.depth }
+    requires factor { IsDigitRow digits.now factor.now }
+    requires rows { All (IsDigitRow digits.now) rows.now }
+    requires inside { (j : ℕ) → j < length rows.now → (made : List ℕ)
+        → IsDividedProduct digits.now power (mul digits.now.curve.prime (value_of digits.now factor.now) (value_of digits.now (slice_index_or rows.now j []))) made
+        → IsOver products.now rest.old made }
+    ensures kept { rest.new ≡ rest.old }
+    ensures rows { IfOk result (AreProductsWith digits.now power products.now rest.old (value_of digits.now factor.now) (length rows.now) rows.now) }
+{
+    let multiples = digits.multiples(factor)?;
+    let mut made = List::new(digits.allocator());
+    for j in 0..rows.len() {
+        let row = rows[j].as_slice();
+        let found = product_coordinates(
+            digits,
+            power,
+            products,
+            rest,
+            factor,
+            multiples.as_slice(),
+            row,
+        )?;
+        made.push(found)?;
+    }
+    Ok(made)
+}
+
+// The coordinates of the products of each two rows: row i n + j is that of the rows i and j, of n rows.
+pub(crate) fn product_table(
+    digits: &Digits,
+    power: u32,
+    products: &Space,
+    rest: &mut Space,
+    rows: &[List<u32>],
+) -> Result<List<List<u32>>, NoMemory>
+    requires power { power + suc power ≤ digits.now.depth }
+    requires rows { All (IsDigitRow digits.now) rows.now }
+    requires inside { HasCoordinates digits.now power products.now rest.old rows.now }
+    ensures kept { rest.new ≡ rest.old }
+    ensures table { IfOk result (IsProductTable digits.now power products.now rest.old rows.now (length rows.now)) }
+{
+    let mut table = List::new(digits.allocator());
+    for i in 0..rows.len() {
+        let factor = rows[i].as_slice();
+        let mut made = products_with(digits, power, products, rest, factor, rows)?;
+        table.append(&mut made)?;
+    }
+    Ok(table)
+}

@@ -1,5 +1,6 @@
 -- for the crates above: rows of digits of the numerators of a module
 pub mod QuotientRows
+pub mod OverQuotients
 -- for the laws here alone
 mod Constants
 mod Subquotients
@@ -9,4 +10,3 @@ mod Nilpotents
 mod Products
 mod ProductRows
 mod Transport
-mod OverQuotients

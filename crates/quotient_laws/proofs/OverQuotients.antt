@@ -77,6 +77,17 @@ module _ (o : OverData) (h : HasRows o) (r : IsFractionRing (data_of o.curve) (I
         (λ x. product_moved A P M B back f (e.0 x), λ z. e.1 (product_moved A P B M same f z));
   }
 
+  -- sums of products are in the ring
+  pub product_inside : (f : Fraction) → IsFraction A f → IsProduct A P B f → B f
+  product_inside f hf (no_product _ h' e) = r.respects (over [] 0) f (poly_none A.prime A.variables) hf
+      (eq_sym A c f (over [] 0) hf (poly_none A.prime A.variables) e) (module_of.whole (over [] 0) (poly_none A.prime A.variables) ([], poly_none A.prime A.variables, eq_refl A c (over [] 0) (poly_none A.prime A.variables)))
+  product_inside f hf (one_more _ b g q h' hb hg cq bb z e) =
+      let hq : IsPoly A.prime A.variables q = All-contains (IsPoly A.prime A.variables) P q point.polys cq in
+      let m = product_of A (over q 0) b in
+      let hm = product_poly A c (over q 0) b hq hb in
+      r.respects (sum_of A m g) f (sum_poly A c m g hm hg) hf (eq_sym A c f (sum_of A m g) hf (sum_poly A c m g hm hg) e)
+      (r.sum m g hm hg (r.product (over q 0) b hq hb (module_of.whole (over q 0) hq (q, hq, eq_refl A c (over q 0) hq)) bb) (product_inside g hg z))
+
   module _ (space : Subspace) (products : HoldsProducts o ms P space) (a : FiniteAlgebra) (us : List (List Term)) (list : List (List ℕ)) (w : AreQuotientRows o ms space a us list) where
     here : IsAlgebra a × IsQuotientAt A P k M a us
     here = quotient_law A c P point.polys k L module_of.is_module.polys ring_here holds k a us
@@ -94,17 +105,6 @@ module _ (o : OverData) (h : HasRows o) (r : IsFractionRing (data_of o.curve) (I
 
     value_in : (x : List ℕ) → B (fraction_of A k us x)
     value_in x = (same (fraction_of A k us x) (fraction_in x)).1 (member_in A c P point.polys k L module_of.is_module.polys ring_here holds k us here.1.polys here.1.members x)
-
-    -- sums of products are in the ring
-    product_inside : (f : Fraction) → IsFraction A f → IsProduct A P B f → B f
-    product_inside f hf (no_product _ h' e) = r.respects (over [] 0) f (poly_none A.prime A.variables) hf
-        (eq_sym A c f (over [] 0) hf (poly_none A.prime A.variables) e) (module_of.whole (over [] 0) (poly_none A.prime A.variables) ([], poly_none A.prime A.variables, eq_refl A c (over [] 0) (poly_none A.prime A.variables)))
-    product_inside f hf (one_more _ b g q h' hb hg cq bb z e) =
-        let hq : IsPoly A.prime A.variables q = All-contains (IsPoly A.prime A.variables) P q point.polys cq in
-        let m = product_of A (over q 0) b in
-        let hm = product_poly A c (over q 0) b hq hb in
-        r.respects (sum_of A m g) f (sum_poly A c m g hm hg) hf (eq_sym A c f (sum_of A m g) hf (sum_poly A c m g hm hg) e)
-        (r.sum m g hm hg (r.product (over q 0) b hq hb (module_of.whole (over q 0) hq (q, hq, eq_refl A c (over q 0) hq)) bb) (product_inside g hg z))
 
     plus_difference : (f g : Fraction) (hf : IsFraction A f) (hg : IsFraction A g) → AreEqual A (sum_of A (difference_of A f g) g) f
     plus_difference f g hf hg =

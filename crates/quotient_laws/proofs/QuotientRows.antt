@@ -16,7 +16,7 @@ use Rattle.polys.specs.Terms.{IsPoly, one, sub, multiple}
 use Rattle.polys.specs.Ideal.{InIdeal, number_combination}
 use Rattle.polys.specs.Curve.{CurveData, data_of}
 use Rattle.polys.proofs.Affine.{poly_add, poly_multiple}
-use Rattle.ideal_laws.proofs.Ideals.{in_larger, in_generator}
+use Rattle.ideal_laws.proofs.Ideals.{in_larger, in_generator, in_more}
 use Rattle.ideal_laws.proofs.Unique.{contains_tail}
 use Rattle.row_space.specs.Subspace.{Subspace, IsIn, DifferIn}
 use Rattle.curve_model.specs.Fraction.{Fraction, IsFraction, AreEqual, denominator_power, over, sum_of, product_of, multiple_of}
@@ -110,6 +110,14 @@ module _ (o : OverData) (h : HasRows o) (ms : List Monomial) (corners : AreCorne
       let e : x.inside.0 ≡ take (length ms * k) t.0 = (digit_law A c ms corners k).unique x.numerator x.inside.0 (take (length ms * k) t.0) x.poly a (first x.numerator t.0 x.poly t.1) in
       record { numerator = x.numerator; row = t.0; poly = x.poly; equal = x.equal; digits = t.1; member = record { fits = t.1.fits; inside = subst (IsIn o.rows) e x.inside.2 } }
 
+  -- the row of a numerator of the module
+  pub member_of_digits : (b : List Term) (row : List ℕ) → IsPoly o.curve.prime o.curve.variables b → AreDigits (data_of o.curve) ms (suc o.power) b row → InOver o (over b o.power) → IsMemberRow o ms row
+  member_of_digits b row hb a i =
+      let m = row_of (over b k) i in
+      let near : InIdeal p o.curve.variables A.ideal (sub p b m.numerator) = one_equal_up A c k b m.numerator hb m.poly m.equal in
+      subst (IsMemberRow o ms) (laws.unique m.numerator m.row row m.poly m.digits
+      (laws.same b m.numerator row hb m.poly (in_more p o.curve.variables (denominator_power A (suc k)) A.ideal (sub p b m.numerator) near) a)) m.member
+
   -- the digits of a sum of multiples by residues
   combined : (vs : List (List Term)) (list : List (List ℕ)) → ArePolys A vs → length list ≡ length vs
       → ((i : ℕ) → i < length vs → AreDigits A ms (suc k) (get_or vs i []) (get_or list i [])) → (cs : List ℕ)
@@ -151,7 +159,7 @@ module _ (o : OverData) (h : HasRows o) (ms : List Monomial) (corners : AreCorne
           )
 
   -- 1 is d^k over d^k
-  one_over : (n : ℕ) → AreEqual A (over one 0) (over (denominator_power A n) n)
+  pub one_over : (n : ℕ) → AreEqual A (over one 0) (over (denominator_power A n) n)
   one_over zero = eq_refl A c (over one 0) (one_poly A c)
   one_over (suc n) = eq_trans A c (over one 0) (over (denominator_power A n) n) (over (denominator_power A (suc n)) (suc n)) (one_poly A c) (power_poly A c n) (power_poly A c (suc n)) (one_over n)
       (one_next A c n (denominator_power A n) (power_poly A c n))
