@@ -22,4 +22,5 @@ mod ProductLists
 mod Numerators
 mod Divided
 mod Tables
+mod RestSpaces
 mod QuotientParts

@@ -29,7 +29,7 @@ use Rattle.quotient_laws.specs.ProductRows.{HoldsCurve}
 use Rattle.quotient_laws.specs.QuotientRows.{IsMemberRow, AreQuotientRows}
 use Rattle.quotient_laws.proofs.OverQuotients.{product_inside}
 use Rattle.quotient_laws.proofs.QuotientRows.{member_over, member_of_digits, one_over}
-use Rattle.over_module.specs.Complements.{IsComplement, IsOver, AreCoordinates}
+use Rattle.over_module.specs.Complements.{IsComplement, IsInWhole, AreCoordinates}
 use Rattle.over_module.specs.Quotients.{HoldsNumerators, IsDividedProduct, IsProductRow, IsProductTable, HasCoordinates}
 use Rattle.over_module.proofs.Divided.{IsQuotientRow, divided_row}
 use Rattle.over_module.proofs.Facts.{finite}
@@ -106,7 +106,7 @@ module _ (g : DigitData) (s : IsDigitSpace g) (n k : ℕ) (R : Subspace) (h : Ha
         (divided_row g s n k R h r deep (value_of g (get_or list i [])) (value_of g (get_or list j [])) (value_poly A (finite g s) g.basis s.corners g.depth (get_or list i []))
         (value_poly A (finite g s) g.basis s.corners g.depth (get_or list j [])) (value_inside i li) (value_inside j lj) x.whole x.digits)
 
-    over_rest : (row : List ℕ) → IsRow g.curve.prime (length g.basis * suc k) row → IsIn U row → IsOver products rest row
+    over_rest : (row : List ℕ) → IsRow g.curve.prime (length g.basis * suc k) row → IsIn U row → IsInWhole products rest row
     over_rest row f i = (U, q, Numerators.fits_in g s n k R h U u low row f, i)
 
     -- all products have coordinates
@@ -115,7 +115,7 @@ module _ (g : DigitData) (s : IsDigitSpace g) (n k : ℕ) (R : Subspace) (h : Ha
         let m = divided i j li lj made x in
         over_rest made m.digits.fits (Numerators.inside g s n k R h U u low made m.member)
 
-    pub power_over : (row : List ℕ) → AreDigits A g.basis (suc k) (denominator_power A k) row → IsOver products rest row
+    pub power_over : (row : List ℕ) → AreDigits A g.basis (suc k) (denominator_power A k) row → IsInWhole products rest row
     power_over row d = over_rest row d.fits (power_inside row d)
 
     -- rows that differ by the products, whatever the names of the prime and the width

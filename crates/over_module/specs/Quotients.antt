@@ -14,7 +14,7 @@ use Rattle.digit_laws.specs.Digits.{AreDigits}
 use Rattle.digit_space.specs.Model.{DigitData, IsDigitsOf, value_of, width}
 use Rattle.over_laws.specs.Over.{OverData}
 use Rattle.quotient_laws.specs.ProductRows.{IsProductRow as IsRowOfProduct}
-use Rattle.over_module.specs.Complements.{AreCoordinates, IsOver}
+use Rattle.over_module.specs.Complements.{AreCoordinates, IsInWhole}
 
 -- the basis rows of m entries, each with zeros behind it up to w entries, and then the unit rows for so many places from m on
 pub record AreFirstGenerators (m w many : ℕ) (basis made : List (List ℕ)) : Type 0 where
@@ -74,4 +74,4 @@ pub record IsProductTable (g : DigitData) (k : ℕ) (products rest : Subspace) (
 abbrev pub HasCoordinates : DigitData → ℕ → Subspace → Subspace → List (List ℕ) → Type 0
 HasCoordinates g k products rest list =
     (i j : ℕ) → i < length list → j < length list → (made : List ℕ)
-    → IsDividedProduct g k (mul g.curve.prime (value_of g (slice_index_or list i [])) (value_of g (slice_index_or list j []))) made → IsOver products rest made
+    → IsDividedProduct g k (mul g.curve.prime (value_of g (slice_index_or list i [])) (value_of g (slice_index_or list j []))) made → IsInWhole products rest made

@@ -1,7 +1,7 @@
 // A complement of a space of rows in a greater one, and coordinates over it.
 ghost use Rattle.std.specs.Prelude.{◌≡◌, ℕ, List, All, IfOk};
 ghost use Rattle.row_space.specs.Subspace.{FitsIn, IsIn};
-ghost use Rattle.over_module.specs.Complements.{AreCoordinates, AreRests, IsComplement, IsOver, IsRest};
+ghost use Rattle.over_module.specs.Complements.{AreCoordinates, AreRests, IsComplement, IsInWhole, IsRestModulo};
 
 use super::raising::spanned;
 use lists::{List, NoMemory};
@@ -11,8 +11,8 @@ use std::alloc::Global;
 // The one row that differs from the given one by a row of the part and is 0 at the part's pivots.
 fn rest_of(alloc: Global, part: &Space, row: &[u32]) -> Result<List<u32>, NoMemory>
     requires { FitsIn part.now row.now }
-    ensures rest { IfOk result (IsRest part.now row.now) }
-    ensures only { IfOk result (λ rest. (other : List ℕ) → IsRest part.now row.now other → other ≡ rest) }
+    ensures rest { IfOk result (IsRestModulo part.now row.now) }
+    ensures only { IfOk result (λ rest. (other : List ℕ) → IsRestModulo part.now row.now other → other ≡ rest) }
 {
     let mut rest = List::from_slice(alloc, row)?;
     part.reduce(rest.as_mut_slice());
@@ -59,11 +59,12 @@ pub(crate) fn coordinates(
     made: &mut Space,
     row: &[u32],
 ) -> Result<List<u32>, NoMemory>
-    requires { IsOver part.now made.old row.now }
+    requires { IsInWhole part.now made.old row.now }
     ensures kept { made.new ≡ made.old }
     ensures coordinates { IfOk result (AreCoordinates part.now made.old row.now) }
 {
     let _modulus = part.prime().get();
+    let _part = part.rows();
     let rest = rest_of(alloc, part, row)?;
     match made.insert(rest.as_slice())? {
         Insert::Inserted => unreachable!(),

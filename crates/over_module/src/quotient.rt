@@ -1,5 +1,6 @@
 // A ring of fractions modulo its products with a point.
 ghost use Rattle.std.specs.Prelude.{◌≡◌, ◌≤◌, ◌<◌, ◌+◌, ◌-◌, ◌*◌, ◌++◌, ℕ, suc, List, [], map, take, drop, length, replicate, slice_index_or, All, IfOk, OnOk};
+ghost use Rattle.polys.specs.declared.term.Term.{Term};
 ghost use Rattle.polys.specs.Terms.{mul};
 ghost use Rattle.polys.specs.Curve.{IsOver, data_of};
 ghost use Rattle.digit_space.specs.Adding.{AreMultiples};
@@ -12,17 +13,21 @@ ghost use Rattle.digit_laws.specs.Digits.{AreDigits};
 ghost use Rattle.curve_model.specs.Rings.{IsFractionRing};
 ghost use Rattle.over_laws.specs.Over.{InOver};
 ghost use Rattle.quotient_laws.specs.OverQuotients.{HoldsProducts};
-ghost use Rattle.quotient_laws.specs.ProductRows.{IsProductSpace};
+ghost use Rattle.quotient_laws.specs.ProductRows.{HoldsCurve, IsProductSpace};
+ghost use Rattle.quotient_laws.specs.QuotientRows.{AreQuotientRows};
 ghost use Rattle.over_module.specs.Quotients.{AreAllProducts, AreGenerators, IsDividedProduct, AreTimes, HasFronts, HoldsNumerators};
 
 use super::base::one_row;
+use super::complement::{complement, coordinates};
 use super::over::Over;
 use super::raising::{behind, spanned};
+use super::table::product_table;
 use curve_model::Point;
 use digit_space::Digits;
+use finite_algebra::Algebra;
 use lists::{List, NoMemory};
 use polys::Poly;
-use quotient_laws::laws::products_are_spaces;
+use quotient_laws::laws::{products_are_spaces, rows_give_quotients};
 use row_space::Space;
 use std::alloc::Global;
 
@@ -217,6 +222,38 @@ impl Over {
         let factors = point.basis.as_slice();
         let space = product_space(digits, self.power() + 1, factors, rows.as_slice())?;
         Ok(space)
+    }
+
+    /// The algebra of the module's ring modulo its products with a point, which are given by their numerators' digits at the depth
+    /// k + 1, where k is the power; and for each basis element a row of digits of its numerator over d^k.
+    pub fn quotient_by(
+        &self,
+        digits: &Digits,
+        products: &Space,
+    ) -> Result<(Algebra, List<List<u32>>), NoMemory>
+        requires curve { digits.now.curve ≡ self.now.curve }
+        requires ring { IsFractionRing (data_of self.now.curve) (InOver self.now) }
+        requires depth { 2 * self.now.power + 2 ≤ digits.now.depth }
+        requires products { (P : List (List Term)) × HoldsCurve (data_of self.now.curve) P × HoldsProducts self.now digits.now.basis P products.now }
+        ensures rows { IfOk result (λ made. AreQuotientRows self.now digits.now.basis products.now made.0 (map (value_of digits.now) made.1)
+            (map (take (length digits.now.basis * suc self.now.power)) made.1)) }
+        ensures fit { IfOk result (λ made. All (IsDigitRow digits.now) made.1) }
+    {
+        rows_give_quotients();
+        let _known = self.rows();
+        let power = self.power();
+        let alloc = digits.allocator();
+        let numerators = self.numerators(digits)?;
+        let width = entries(digits, power + 1);
+        let mut rest = complement(alloc, width, products, &numerators)?;
+        let depth = entries(digits, digits.depth());
+        let rows = all_filled(alloc, depth, rest.rows())?;
+        let unit = power_row(digits, power)?;
+        let one = coordinates(alloc, products, &mut rest, unit.as_slice())?;
+        let table = product_table(digits, power, products, &mut rest, rows.as_slice())?;
+        let prime = digits.curve().prime;
+        let algebra = Algebra::of_products(prime, rows.len(), one, table);
+        Ok((algebra, rows))
     }
 }
 

@@ -3,7 +3,7 @@ ghost use Rattle.std.specs.Prelude.{◌≡◌, ◌≤◌, ◌<◌, ◌+◌, ℕ,
 ghost use Rattle.polys.specs.Terms.{mul};
 ghost use Rattle.digit_space.specs.Adding.{AreMultiples};
 ghost use Rattle.digit_space.specs.Model.{IsDigitRow, value_of};
-ghost use Rattle.over_module.specs.Complements.{IsOver};
+ghost use Rattle.over_module.specs.Complements.{IsInWhole};
 ghost use Rattle.over_module.specs.Quotients.{AreProductsWith, HasCoordinates, IsDividedProduct, IsProductRow, IsProductTable};
 
 use super::complement::coordinates;
@@ -28,7 +28,7 @@ fn product_coordinates(
     requires factor { IsDigitRow digits.now factor.now }
     requires row { IsDigitRow digits.now row.now }
     requires inside { (made : List ℕ) → IsDividedProduct digits.now power (mul digits.now.curve.prime (value_of digits.now factor.now) (value_of digits.now row.now)) made
-        → IsOver products.now rest.old made }
+        → IsInWhole products.now rest.old made }
     ensures kept { rest.new ≡ rest.old }
     ensures row { IfOk result (IsProductRow digits.now power products.now rest.old (value_of digits.now factor.now) (value_of digits.now row.now)) }
 {
@@ -52,7 +52,7 @@ fn products_with(
     requires rows { All (IsDigitRow digits.now) rows.now }
     requires inside { (j : ℕ) → j < length rows.now → (made : List ℕ)
         → IsDividedProduct digits.now power (mul digits.now.curve.prime (value_of digits.now factor.now) (value_of digits.now (slice_index_or rows.now j []))) made
-        → IsOver products.now rest.old made }
+        → IsInWhole products.now rest.old made }
     ensures kept { rest.new ≡ rest.old }
     ensures rows { IfOk result (AreProductsWith digits.now power products.now rest.old (value_of digits.now factor.now) (length rows.now) rows.now) }
 {
