@@ -21,3 +21,5 @@ mod Times
 mod ProductLists
 mod Numerators
 mod Divided
+-- complements of a space in a greater one
+mod RestSpaces

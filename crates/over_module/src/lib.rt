@@ -5,6 +5,7 @@
 mod adding;
 mod base;
 mod comparing;
+mod complement;
 mod done;
 mod lowering;
 mod over;
