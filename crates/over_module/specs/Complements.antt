@@ -30,9 +30,10 @@ pub record IsComplement (part whole made : Subspace) : Type 0 where
   pub inside : All (IsIn whole) made.basis
   pub pivots : All (IsZeroAtPivots part) made.basis
   pub onto : (row : List ℕ) → FitsIn whole row → IsIn whole row
-      → (x : List ℕ) × IsRow whole.prime (length made.basis) x × DifferIn part row (combination (rows whole.prime whole.width) x made.basis)
-  pub zero : (x : List ℕ) → IsRow whole.prime (length made.basis) x → IsIn part (combination (rows whole.prime whole.width) x made.basis)
-      → All (λ c. c ≡ 0) x
+      → (x : List ℕ) × IsRow whole.prime (length made.basis) x
+      × DifferIn part row (combination (rows whole.prime whole.width) x made.basis)
+  pub zero : (x : List ℕ) → IsRow whole.prime (length made.basis) x
+      → IsIn part (combination (rows whole.prime whole.width) x made.basis) → All (λ c. c ≡ 0) x
 
 -- the row is in a space in which made is a complement of the part
 abbrev pub IsInWhole : Subspace → Subspace → List ℕ → Type 0
