@@ -1,4 +1,5 @@
 pub mod Algebras
+pub mod Complements
 pub mod Done
 pub mod Raising
 pub mod Complements
