@@ -11,6 +11,7 @@ use Rattle.comm_ring.proofs.Rows.{row_module}
 use Rattle.monomials.specs.Mono.{Monomial}
 use Rattle.polys.specs.declared.term.Term.{Term}
 use Rattle.polys.specs.Terms.{IsPoly, one, mul}
+use Rattle.polys.specs.declared.curve.Curve.{Curve}
 use Rattle.polys.specs.Curve.{CurveData, data_of}
 use Rattle.row_space.specs.Echelon.{IsRow}
 use Rattle.row_space.specs.Subspace.{Subspace, FitsIn, IsIn, DifferIn}
@@ -27,6 +28,7 @@ use Rattle.over_laws.specs.Over.{OverData, InOver, InRows, HasRows}
 use Rattle.quotient_laws.specs.OverQuotients.{HoldsProducts}
 use Rattle.quotient_laws.specs.ProductRows.{HoldsCurve}
 use Rattle.quotient_laws.specs.QuotientRows.{IsMemberRow, AreQuotientRows}
+use Rattle.quotient_laws.specs.Quotients.{IsQuotientAt}
 use Rattle.quotient_laws.proofs.OverQuotients.{product_inside}
 use Rattle.quotient_laws.proofs.QuotientRows.{member_over, member_of_digits, one_over}
 use Rattle.over_module.specs.Complements.{IsComplement, IsInWhole, AreCoordinates}
@@ -88,6 +90,9 @@ module _ (g : DigitData) (s : IsDigitSpace g) (n k : ℕ) (R : Subspace) (h : Ha
 
     pub rows_fit : All (IsDigitRow g) list
     rows_fit = Numerators.rows_fit g s n k R low rest.basis basis_fits list e
+
+    pub fronts_are : map (take (length g.basis * suc k)) list ≡ rest.basis
+    fronts_are = Numerators.fronts_are g s n k R low rest.basis basis_fits list e
 
     long : length list ≡ length rest.basis
     long = Numerators.long g s n k R low rest.basis basis_fits list e
@@ -185,3 +190,22 @@ module _ (g : DigitData) (s : IsDigitSpace g) (n k : ℕ) (R : Subspace) (h : Ha
               same_sum x.divided (get_or table (i * length list + j) []) x.coordinates.same,
             );
       }
+
+module _ (g : DigitData) (s : IsDigitSpace g) (o : OverData) (e : g.curve ≡ o.curve) where
+  abbrev at : Curve → OverData
+  at C = record { curve = C; dimension = o.dimension; power = o.power; rows = o.rows }
+
+  pub curve_here : (P : List (List Term)) → HoldsCurve (data_of o.curve) P → HoldsCurve (data_of g.curve) P
+  curve_here P w = subst (λ C. HoldsCurve (data_of C) P) (sym e) w
+
+  pub products_here : (P : List (List Term)) (space : Subspace) → HoldsProducts o g.basis P space → HoldsProducts (here g s o.dimension o.power o.rows) g.basis P space
+  products_here P space w = subst (λ C. HoldsProducts (at C) g.basis P space) (sym e) w
+
+  pub rows_there : (space : Subspace) (a : FiniteAlgebra) (us : List (List Term)) (list : List (List ℕ)) → AreQuotientRows (here g s o.dimension o.power o.rows) g.basis space a us list → AreQuotientRows o g.basis space a us list
+  rows_there space a us list w = subst (λ C. AreQuotientRows (at C) g.basis space a us list) e w
+
+  pub quotient_rows_here : (space : Subspace) (a : FiniteAlgebra) (us : List (List Term)) (list : List (List ℕ)) → AreQuotientRows o g.basis space a us list → AreQuotientRows (here g s o.dimension o.power o.rows) g.basis space a us list
+  quotient_rows_here space a us list w = subst (λ C. AreQuotientRows (at C) g.basis space a us list) (sym e) w
+
+  pub quotient_there : (P : List (List Term)) (a : FiniteAlgebra) (us : List (List Term)) → IsQuotientAt (data_of g.curve) P o.power (InOver (here g s o.dimension o.power o.rows)) a us → IsQuotientAt (data_of o.curve) P o.power (InOver o) a us
+  quotient_there P a us w = subst (λ C. IsQuotientAt (data_of C) P o.power (InOver (at C)) a us) e w

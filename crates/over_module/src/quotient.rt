@@ -15,6 +15,7 @@ ghost use Rattle.over_laws.specs.Over.{InOver};
 ghost use Rattle.quotient_laws.specs.OverQuotients.{HoldsProducts};
 ghost use Rattle.quotient_laws.specs.ProductRows.{HoldsCurve, IsProductSpace};
 ghost use Rattle.quotient_laws.specs.QuotientRows.{AreQuotientRows};
+ghost use Rattle.quotient_laws.specs.Quotients.{IsQuotientAt};
 ghost use Rattle.over_module.specs.Quotients.{AreAllProducts, AreGenerators, IsDividedProduct, AreTimes, HasFronts, HoldsNumerators};
 
 use super::base::one_row;
@@ -226,6 +227,9 @@ impl Over {
 
     /// The algebra of the module's ring modulo its products with a point, which are given by their numerators' digits at the depth
     /// k + 1, where k is the power; and for each basis element a row of digits of its numerator over d^k.
+    ///
+    /// # Errors
+    /// Want of memory.
     pub fn quotient_by(
         &self,
         digits: &Digits,
@@ -241,12 +245,13 @@ impl Over {
     {
         rows_give_quotients();
         let _known = self.rows();
+        let _products = products.rows();
+        let depth = entries(digits, digits.depth());
         let power = self.power();
         let alloc = digits.allocator();
         let numerators = self.numerators(digits)?;
         let width = entries(digits, power + 1);
         let mut rest = complement(alloc, width, products, &numerators)?;
-        let depth = entries(digits, digits.depth());
         let rows = all_filled(alloc, depth, rest.rows())?;
         let unit = power_row(digits, power)?;
         let one = coordinates(alloc, products, &mut rest, unit.as_slice())?;
@@ -254,6 +259,35 @@ impl Over {
         let prime = digits.curve().prime;
         let algebra = Algebra::of_products(prime, rows.len(), one, table);
         Ok((algebra, rows))
+    }
+
+    /// The algebra of the module's ring modulo its products with a point, and for each basis element a row of digits of its
+    /// numerator over d^k, where k is the power.
+    ///
+    /// Beside the products it takes a product for each two basis elements, and a reduction by the rows of the products for each of
+    /// these: the dimension of the algebra is at most the multiplicity of the curve at the point, times its degree.
+    ///
+    /// # Errors
+    /// Want of memory.
+    ///
+    /// Greuel and Pfister, sections on finite extensions and on the algorithm for normalization.
+    pub fn quotient_algebra(
+        &self,
+        digits: &Digits,
+        point: &Point,
+    ) -> Result<(Algebra, List<List<u32>>), NoMemory>
+        requires curve { digits.now.curve ≡ self.now.curve }
+        requires ring { IsFractionRing (data_of self.now.curve) (InOver self.now) }
+        requires point { IsPointOf (data_of self.now.curve) point.now }
+        requires depth { 2 * self.now.power + 2 ≤ digits.now.depth }
+        ensures { IfOk result (λ made. IsQuotientAt (data_of self.now.curve) (basis_of point.now) self.now.power (InOver self.now) made.0 (map (value_of digits.now) made.1)) }
+    {
+        rows_give_quotients();
+        let _basis = digits.basis();
+        let _known = self.rows();
+        let products = self.products(digits, point)?;
+        let made = self.quotient_by(digits, &products)?;
+        Ok(made)
     }
 }
 
