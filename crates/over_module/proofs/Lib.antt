@@ -1,10 +1,13 @@
--- for the crates above: the digits of a fit curve, and rows that are filled with zeros
+-- for the crates above: the digits of a fit curve, rows that are filled with zeros, fractions by rows at two depths, and a module
+-- over the curve of its digits
 pub mod Facts
 pub mod Values
+pub mod DepthRows
+pub mod Numerators
+pub mod QuotientParts
 -- for this crate alone: products of corners
 mod CornerRows
--- fractions by rows at two depths, and spaces of rows behind zeros
-mod DepthRows
+-- spaces of rows behind zeros
 mod ZeroRows
 mod Ranks
 mod Moved
@@ -15,12 +18,10 @@ mod Compared
 mod SummedRows
 mod SummedModules
 mod LeastPower
--- rows whose first entries are in a space, and products by rows
+-- rows whose first entries are in a space, products by rows, complements, and tables of coordinates
 mod Fronts
 mod Times
 mod ProductLists
-mod Numerators
 mod Divided
-mod Tables
 mod RestSpaces
-mod QuotientParts
+mod Tables

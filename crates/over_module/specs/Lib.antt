@@ -1,5 +1,4 @@
 pub mod Algebras
-pub mod Complements
 pub mod Done
 pub mod Raising
 pub mod Complements

@@ -1,6 +1,7 @@
 -- for the crates above: rows of digits of the numerators of a module
 pub mod QuotientRows
 pub mod OverQuotients
+pub mod Radicals
 -- for the laws here alone
 mod Constants
 mod Subquotients
