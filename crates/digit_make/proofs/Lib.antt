@@ -6,4 +6,5 @@ mod Playing
 mod Parents
 mod Leads
 mod Made
+mod Growth
 mod Deeper
