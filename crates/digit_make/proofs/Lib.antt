@@ -7,4 +7,6 @@ mod Parents
 mod Leads
 mod Made
 mod Growth
+mod First
+mod Ready
 mod Deeper

@@ -56,6 +56,7 @@ fn grow_border_row(
     requires rows { AreRowsOf plan.now rows.old }
     requires deep { (t < most) × (most ≤ 200) }
     requires grown { AreGrown (length plan.now.corners) t most j rows.old.border }
+    requires outer { AreGrown (length plan.now.corners) t (most - 1) 0 rows.old.outer }
     requires j { j < length plan.now.border }
     ensures rows { OnOk result (AreRowsOf plan.now rows.new) }
     ensures grown { OnOk result (AreGrown (length plan.now.corners) t most (j + 1) rows.new.border) }
@@ -85,6 +86,7 @@ fn grow_outer_row(
     requires rows { AreRowsOf plan.now rows.old }
     requires deep { (t < most) × (most ≤ 200) }
     requires grown { AreGrown (length plan.now.corners) t most j rows.old.outer }
+    requires border { AreGrown (length plan.now.corners) (t + 1) (most + 1) 0 rows.old.border }
     requires j { j < length plan.now.outer }
     ensures rows { OnOk result (AreRowsOf plan.now rows.new) }
     ensures grown { OnOk result (AreGrown (length plan.now.corners) t most (j + 1) rows.new.outer) }
@@ -113,6 +115,7 @@ fn grow_border(
     requires rows { AreRowsOf plan.now rows.old }
     requires deep { (t < most) × (most ≤ 200) }
     requires grown { AreGrown (length plan.now.corners) t most 0 rows.old.border }
+    requires outer { AreGrown (length plan.now.corners) t (most - 1) 0 rows.old.outer }
     ensures rows { OnOk result (AreRowsOf plan.now rows.new) }
     ensures grown { OnOk result (AreGrown (length plan.now.corners) (t + 1) most 0 rows.new.border) }
     ensures outer { OnOk result (rows.new.outer ≡ rows.old.outer) }
@@ -135,6 +138,7 @@ fn grow_outer(
     requires rows { AreRowsOf plan.now rows.old }
     requires deep { (t ≤ most) × (most ≤ 200) }
     requires grown { AreGrown (length plan.now.corners) (t - 1) most 0 rows.old.outer }
+    requires border { AreGrown (length plan.now.corners) t (most + 1) 0 rows.old.border }
     ensures rows { OnOk result (AreRowsOf plan.now rows.new) }
     ensures grown { OnOk result (AreGrown (length plan.now.corners) t most 0 rows.new.outer) }
     ensures border { OnOk result (rows.new.border ≡ rows.old.border) }

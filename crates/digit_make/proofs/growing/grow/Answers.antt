@@ -33,3 +33,8 @@ returns-clause-outer c =
     let whole : c.loop-t.t ≡ c.args.depth = omega (arith, c.loop-t-test.false, c.loop-t.auto.t-end) in
     grown_long (length c.args.plan.now.corners) (c.args.depth - 1) c.loop-t.rows.outer
     (subst (λ z. AreGrown (length c.args.plan.now.corners) (z - 1) (c.args.depth - 1) 0 c.loop-t.rows.outer) whole c.loop-t.invariant.outer)
+
+pub grow_outer-requires-clause-border : goal.grow_outer-requires-clause-border
+grow_outer-requires-clause-border c =
+    let same : c.args.depth ≡ c.args.depth - 1 + 1 = omega (arith, c.loop-t-test.true) in
+    subst (λ z. AreGrown (length c.args.plan.now.corners) c.loop-t.t z 0 c.loop-t.rows.border) same c.loop-t.invariant.border
