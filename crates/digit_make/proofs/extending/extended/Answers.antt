@@ -1,5 +1,8 @@
 use Rattle.std.proofs.Common.{◌≡◌, ◌-◌, ◌≤◌, length, sym, ap, ◌∙◌, subst, arith}
 use Rattle.std.proofs.lemmas.Result.{IfOk-weaker}
+use Rattle.std.specs.List.{All}
+use Rattle.polys.specs.declared.curve.Curve.{Curve}
+use Rattle.polys.specs.Terms.{IsAffine}
 use Rattle.digit_space.specs.Model.{DigitData}
 use Rattle.digit_make.specs.Making.{HasFirstBlocks}
 use Rattle.digit_make.proofs.Deeper.{first_blocks, rows_of}
@@ -47,3 +50,15 @@ returns-clause-blocks c =
     (ap (λ (z : DigitData). z.curve) e ∙ c.in_ok-plan.ensures.curve ∙ c.curve-2.ensures)
     (ap (λ (z : DigitData). z.basis) e ∙ c.in_ok-plan.ensures.corners ∙ c.in_ok-corners.ensures ∙ c.basis.ensures.value))
     c.digits_from.ensures
+
+pub border_rows-requires : goal.border_rows-requires
+border_rows-requires c =
+    let plan = c.in_ok-plan.plan in
+    subst (All (IsAffine c.args.digits.now.curve.variables)) (sym c.as_slice.ensures)
+    (subst (λ (z : Curve). All (IsAffine z.variables) plan.border) (c.in_ok-plan.ensures.curve ∙ c.curve-2.ensures) c.in_ok-plan.ensures.plan.border)
+
+pub outer_rows-requires : goal.outer_rows-requires
+outer_rows-requires c =
+    let plan = c.in_ok-plan.plan in
+    subst (All (IsAffine c.args.digits.now.curve.variables)) (sym c.as_slice-2.ensures)
+    (subst (λ (z : Curve). All (IsAffine z.variables) plan.outer) (c.in_ok-plan.ensures.curve ∙ c.curve-2.ensures) c.in_ok-plan.ensures.plan.outer)
