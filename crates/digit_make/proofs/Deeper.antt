@@ -5,6 +5,7 @@ use Rattle.std.specs.declared.cmp.Ordering.TheVariants.{Equal}
 use Rattle.prime_field.proofs.Table.{above_one}
 use Rattle.monomials.specs.Mono.{Monomial, unit, times, variable, cmp_dp}
 use Rattle.monomials.proofs.Order.{same_dp}
+use Rattle.polys.specs.declared.term.Term.{Term}
 use Rattle.polys.specs.Terms.{IsAffine}
 use Rattle.polys.specs.Curve.{CurveData, data_of}
 use Rattle.standard_monomials.specs.Standard.{polynomial_of}
@@ -12,7 +13,7 @@ use Rattle.curve_laws.proofs.FitLaws.{fit_law}
 use Rattle.digit_laws.specs.Digits.{AreDigits}
 use Rattle.digit_space.specs.Model.{DigitData, IsDigitSpace, AreFirstDigits, HasOuterRows, times_variable, corner, width}
 use Rattle.digit_space.specs.declared.products.OuterRow.{OuterRow}
-use Rattle.digit_make.specs.Blocks.{AreKnown, IsKnown}
+use Rattle.digit_make.specs.Blocks.{AreKnown, HasBlocks, IsKnown}
 use Rattle.digit_make.specs.Making.{HasFirstBlocks}
 use Rattle.digit_make.specs.Planned.{curve_of}
 use Rattle.digit_make.specs.declared.plan.Plan.{Plan}
@@ -32,10 +33,14 @@ width_small g s = let m = mul-le-mul (few_corners g.curve s.prime s.fit g.basis 
 pub none_known : (g : DigitData) (m : Monomial) (row : List ℕ) → IsDigitSpace g → IsAffine g.curve.variables m → row ≡ [] → IsKnown (data_of g.curve) g.basis m row
 none_known g m row s a e = subst (IsKnown (data_of g.curve) g.basis m) (sym e) (nothing_known (data_of g.curve) g.basis (setting_at g s) m a)
 
+-- digits at a depth are whole blocks
+pub digits_blocks : (g : DigitData) (T : ℕ) (f : List Term) (row : List ℕ) → AreDigits (data_of g.curve) g.basis T f row → HasBlocks (length g.basis) 0 T row
+digits_blocks g T f row d = record { count = T; enough = omega arith; within = omega arith; whole = d.fits.0 }
+
 -- a row with its zeros has the digits at the depth
-pub padded_known : (g : DigitData) (m : Monomial) (row made : List ℕ) (wide : ℕ) → AreFirstDigits g (polynomial_of m) row → wide ≡ width g → made ≡ row ++ replicate (wide - length row) 0
-    → IsKnown (data_of g.curve) g.basis m made
-padded_known g m row made wide f e q = (g.depth, subst (AreDigits (data_of g.curve) g.basis g.depth (polynomial_of m)) (sym (q ∙ ap (λ z. row ++ replicate (z - length row) 0) e)) f.digits)
+pub padded_digits : (g : DigitData) (m : Monomial) (row made : List ℕ) (wide : ℕ) → AreFirstDigits g (polynomial_of m) row → wide ≡ width g → made ≡ row ++ replicate (wide - length row) 0
+    → AreDigits (data_of g.curve) g.basis g.depth (polynomial_of m) made
+padded_digits g m row made wide f e q = subst (AreDigits (data_of g.curve) g.basis g.depth (polynomial_of m)) (sym (q ∙ ap (λ z. row ++ replicate (z - length row) 0) e)) f.digits
 
 -- the digits of a variable times a corner are those of the monomial that this is
 pub product_known : (g : DigitData) (v i : ℕ) (w m : Monomial) (row : List ℕ) → IsDigitSpace g → w ≡ get_or g.basis i unit → times w (variable v) ≡ m
@@ -45,14 +50,12 @@ product_known g v i w m row s e q f =
     (variable_times g.curve.prime v (corner g i) (above_one g.curve.prime s.prime) ∙ ap polynomial_of (ap (λ z. times z (variable v)) (sym e) ∙ q)) f
 
 -- an outer row has the digits of its monomial
-pub outer_known : (g : DigitData) (outer : List OuterRow) (j : ℕ) (r s : OuterRow) (m : Monomial) (row : List ℕ) → HasOuterRows g outer → j < length outer
-    → Equal ≡ cmp_dp (get_or outer j r).monomial m → row ≡ (get_or outer j s).digits → IsKnown (data_of g.curve) g.basis m row
-outer_known g outer j r s m row h l e q = (
-  g.depth - 1,
-  subst (AreDigits (data_of g.curve) g.basis (g.depth - 1) (polynomial_of m)) (sym q)
-      (subst (λ z. AreDigits (data_of g.curve) g.basis (g.depth - 1) (polynomial_of z) (get_or outer j s).digits)
-      (ap (λ (x : OuterRow). x.monomial) (get_or_default outer j s r l) ∙ same_dp (get_or outer j r).monomial m (sym e)) (h j s l)),
-)
+pub outer_digits_of : (g : DigitData) (outer : List OuterRow) (j : ℕ) (r s : OuterRow) (m : Monomial) (row : List ℕ) → HasOuterRows g outer → j < length outer
+    → Equal ≡ cmp_dp (get_or outer j r).monomial m → row ≡ (get_or outer j s).digits → AreDigits (data_of g.curve) g.basis (g.depth - 1) (polynomial_of m) row
+outer_digits_of g outer j r s m row h l e q =
+    subst (AreDigits (data_of g.curve) g.basis (g.depth - 1) (polynomial_of m)) (sym q)
+    (subst (λ z. AreDigits (data_of g.curve) g.basis (g.depth - 1) (polynomial_of z) (get_or outer j s).digits)
+    (ap (λ (x : OuterRow). x.monomial) (get_or_default outer j s r l) ∙ same_dp (get_or outer j r).monomial m (sym e)) (h j s l))
 
 -- known rows are those of a plan with this curve and these corners
 pub rows_of : (g : DigitData) (plan : Plan) (read monomials : List Monomial) (rows : List (List ℕ)) → plan.curve.value ≡ g.curve → plan.corners ≡ g.basis → read ≡ monomials

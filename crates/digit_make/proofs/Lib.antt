@@ -6,4 +6,7 @@ mod Playing
 mod Parents
 mod Leads
 mod Made
+mod Growth
+mod First
+mod Ready
 mod Deeper

@@ -1,6 +1,6 @@
 -- From a plan and its rows to digits.
 use Rattle.std.proofs.Common.{◌≡◌, ℕ, suc, ◌+◌, ◌-◌, ◌*◌, ◌<◌, ◌≤◌, List, [], ◌++◌, length, get_or, replicate, sym, ap, ◌∙◌, subst, arith}
-use Rattle.std.specs.List.{All}
+use Rattle.std.specs.List.{All, Contains}
 use Rattle.std.proofs.lemmas.List.{get_or-replicate, length-replicate}
 use Rattle.std.proofs.lemmas.List.Elements.{All-get_or}
 use Rattle.std.proofs.Math.Nat.{le_antisymm, le_of_mul-le-mul_left, mul-le-mul_left}
@@ -21,7 +21,8 @@ use Rattle.digit_space.specs.declared.products.Product.TheVariants.{Corner, Bord
 use Rattle.digit_make.specs.declared.plan.Plan.{Plan}
 use Rattle.digit_make.specs.Blocks.{AreKnown, IsKnown}
 use Rattle.digit_make.specs.Making.{AreOuter, AreTrimmed, IsLiftedOf, curve_of_lifted}
-use Rattle.digit_make.specs.Planned.{AreProductsIn, AreRulesIn, IsPlan, IsFoundIn, curve_of}
+use Rattle.digit_make.specs.Planned.{AreProductsIn, AreRulesIn, IsPlan, IsFoundIn, NamesOnly, curve_of}
+use Rattle.digit_make.specs.Playing.{AreRising}
 use Rattle.digit_make.proofs.Expansion.{variable_times}
 use Rattle.digit_make.proofs.Settings.{setting, few_corners, nothing_known}
 
@@ -97,8 +98,9 @@ module _ (plan : Plan) (h : IsPlan plan) where
 pub plan_by : (c : Curve) (l : LiftedData) (plan : Plan) (corners : List Monomial) → IsLiftedOf c l → IsPrime l.prime → l.prime ≤ 32003 → Fit c → plan.curve.value ≡ c → AreCornersOf (data_of c) corners
     → plan.corners ≡ corners → 0 < length corners → All (IsAffine l.variables) plan.border → All (IsAffine l.variables) plan.outer
     → AreProductsIn l.variables plan.corners plan.border plan.products → AreRulesIn (curve_of_lifted l) plan.corners plan.border plan.outer plan.border plan.border_rules
-    → AreRulesIn (curve_of_lifted l) plan.corners plan.border plan.outer plan.outer plan.outer_rules → IsPlan plan
-plan_by c l plan corners h prime small fit e k ce some border outer products border_rules outer_rules = record {
+    → AreRulesIn (curve_of_lifted l) plan.corners plan.border plan.outer plan.outer plan.outer_rules
+    → AreRising plan.corners plan.border plan.outer → ((m : Monomial) → Contains plan.border m → Contains plan.corners m → ⊥) → All (NamesOnly plan.corners plan.border []) plan.border_rules → All (NamesOnly plan.corners plan.border plan.outer) plan.outer_rules → IsPlan plan
+plan_by c l plan corners h prime small fit e k ce some border outer products border_rules outer_rules rising outside inner further = record {
   prime = subst IsPrime (ap (λ (A : CurveData). A.prime) same) prime;
   small = subst (λ z. z ≤ 32003) (ap (λ (A : CurveData). A.prime) same) small;
   fit = subst Fit (sym e) fit;
@@ -110,6 +112,10 @@ plan_by c l plan corners h prime small fit e k ce some border outer products bor
   products = subst (λ (A : CurveData). AreProductsIn A.variables plan.corners plan.border plan.products) same products;
   border_rules = subst (λ A. AreRulesIn A plan.corners plan.border plan.outer plan.border plan.border_rules) same border_rules;
   outer_rules = subst (λ A. AreRulesIn A plan.corners plan.border plan.outer plan.outer plan.outer_rules) same outer_rules;
+  rising = rising;
+  outside = outside;
+  inner = inner;
+  further = further;
 }
   where
     same : curve_of_lifted l ≡ curve_of plan

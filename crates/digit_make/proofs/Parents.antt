@@ -296,11 +296,16 @@ module _ (l : LiftedData) (h : IsLifted l) (play : Play) (k : IsPlay l play) whe
   pub rising_of : AreRising play.corners play.border play.outer
   rising_of = record { corners = k.closed.rising; around = k.border.rising; further = k.outer.rising }
 
+  pub tail_inner : (basis : List Polynomial) (i : ℕ) (g : Polynomial) (m : Monomial) → basis ≡ l.sum → i < length basis → g ≡ get_or basis i g → ((d : Polynomial) → HasLead (get_or basis i d).terms m)
+      → EachMono (Contains play.corners) (sub l.prime (polynomial_of m) g.terms)
+  tail_inner basis i g m e q r s =
+      tail_corners l h play.corners k.corners m g.terms (contains_map (λ (f : Polynomial). f.terms) l.sum g (subst (λ z. Contains z g) e (i, q, sym r))) (subst (λ (z : Polynomial). HasLead z.terms m) (sym r) (s g))
+
   pub tail_covered : (basis : List Polynomial) (i : ℕ) (g : Polynomial) (m : Monomial) → basis ≡ l.sum → i < length basis → g ≡ get_or basis i g → ((d : Polynomial) → HasLead (get_or basis i d).terms m)
       → IsCovered play.corners play.border play.outer (sub l.prime (polynomial_of m) g.terms)
   tail_covered basis i g m e q r s =
       every_more (Contains play.corners) (IsInPlay play.corners play.border play.outer) (sub l.prime (polynomial_of m) g.terms) (λ w c. inl c)
-      (tail_corners l h play.corners k.corners m g.terms (contains_map (λ (f : Polynomial). f.terms) l.sum g (subst (λ z. Contains z g) e (i, q, sym r))) (subst (λ (z : Polynomial). HasLead z.terms m) (sym r) (s g)))
+      (tail_inner basis i g m e q r s)
 
   pub lift_covered : (lifts : List Polynomial) (i : ℕ) (u : Polynomial) → lifts ≡ play.lifts → i < length play.lifts → u ≡ get_or lifts i u → IsCovered play.corners play.border play.outer u.terms
   lift_covered lifts i u e q r =

@@ -47,7 +47,7 @@ place_in ms i m l e = (i, l, get_or_default ms i m unit l ∙ e)
 
 -- ---- degrees
 
-less_next : (m : Monomial) (v : ℕ) → length m.exponents ≡ 7 → v < 7 → cmp_dp m (times m (variable v)) ≡ Less
+pub less_next : (m : Monomial) (v : ℕ) → length m.exponents ≡ 7 → v < 7 → cmp_dp m (times m (variable v)) ≡ Less
 less_next m v l h = go (cmp_dp m (times m (variable v))) refl
   where
     go : (r : Ordering) → cmp_dp m (times m (variable v)) ≡ r → cmp_dp m (times m (variable v)) ≡ Less

@@ -5,8 +5,6 @@ use native.Mathlib.Decide.{ℕ_discrete}
 use Rattle.std.proofs.Math.Nat.{le_of_mul-le-mul_left, le_antisymm}
 use Rattle.std.proofs.lemmas.List.{append_assoc, drop-drop, ext_get_or, get_or_default, get_or-map, get_or-replicate, get_or-set_other, get_or-set_same, get_or-take, get_or-drop, length-drop, length-map, length-set, length-take-le, take_all, take_more, take-append-drop}
 use Rattle.std.proofs.lemmas.List.Elements.{All-get_or, All-head, All-tail, All-take, All-drop}
-use Rattle.std.specs.Prelude.{Result, Ok, Err, OnOk}
-use Rattle.lists.specs.declared.NoMemory.{NoMemory}
 use Rattle.lane_rows.specs.Rows.{AreResidues, plus_multiple}
 use Rattle.monomials.specs.Mono.{Monomial, unit, times, variable}
 use Rattle.prime_field.proofs.Table.{above_one}
@@ -30,7 +28,7 @@ use Rattle.digit_make.specs.declared.plan.Place.TheVariants.{Corner, Border, Out
 use Rattle.digit_make.specs.declared.plan.Share.{Share}
 use Rattle.digit_make.specs.declared.plan.Plan.{Plan}
 use Rattle.digit_make.specs.Blocks.{AreKnown, IsBlock, IsKnown}
-use Rattle.digit_make.specs.Planned.{IsPlan, IsBlockRow, IsLeadSum, IsPlace, Adds, AreShares, corners_multiple, curve_of, monomial_at, sum_of, terms_at}
+use Rattle.digit_make.specs.Planned.{HasBlock, IsPlan, IsBlockRow, IsLeadSum, IsPlace, Adds, AreShares, corners_multiple, curve_of, monomial_at, sum_of, terms_at}
 use Rattle.digit_make.proofs.Expansion.{alike, deep_enough, down, more, none, of_value, pos, plus_row, plus_corner, product_more, product_step, term_of, up, up_first, variable_times, zeros_fit}
 use Rattle.digit_make.proofs.Settings.{setting}
 
@@ -99,15 +97,21 @@ module _ (plan : Plan) (h : IsPlan plan) where
       → j < length monomials → list ≡ rows → item ≡ get_or list j item → row ≡ item → AreResidues p row
   read_residues p monomials rows list j item row s k l e q r = subst (λ z. AreResidues z row) (sym s) (row_read monomials rows list j item row k l e q r).1.fits.1
 
+  -- such a row has the block, if it is among those of the rows
+  pub read_made : (t n : ℕ) (rows list : List (List ℕ)) (j : ℕ) (item row : List ℕ) → j < length rows → list ≡ rows → item ≡ get_or list j item → row ≡ item → n ≡ length plan.corners
+      → HasBlock plan t (get_or rows j []) → n * t + n ≤ length row
+  read_made t n rows list j item row l e q r w b =
+      subst (λ z. z * t + z ≤ length row) (sym w)
+      (subst (HasBlock plan t) (sym (r ∙ q ∙ ap (λ z. get_or z j item) e ∙ get_or_default rows j item [] l)) b)
+
   -- what a call says that adds a block of such a row
-  pub adds_read : (p t c : ℕ) (monomials : List Monomial) (rows list : List (List ℕ)) (j : ℕ) (item row old new : List ℕ) (result : Result (Unit {0}) NoMemory) → p ≡ (curve_of plan).prime
+  pub adds_read : (p t c : ℕ) (monomials : List Monomial) (rows list : List (List ℕ)) (j : ℕ) (item row old new : List ℕ) → p ≡ (curve_of plan).prime
       → AreKnown (curve_of plan) plan.corners monomials rows → All (IsAffine (curve_of plan).variables) monomials → j < length monomials
       → list ≡ rows → item ≡ get_or list j item → row ≡ item → IsBlockRow plan old → IsBlockRow plan new
-      → OnOk result (length old * t + length old ≤ length row)
-      → OnOk result ((i : ℕ) → i < length old → get_or new i 0 ≡ (get_or old i 0 + c * get_or row (length old * t + i) 0) % p)
-      → OnOk result (Adds plan t old (record { coeff = c; mono = get_or monomials j unit } ∷ []) new)
-  adds_read p t c monomials rows list j item row old new (Err e) s k a l q r w fits fits' long sum = tt
-  adds_read p t c monomials rows list j item row old new (Ok u) s k a l q r w fits fits' long sum =
+      → length old * t + length old ≤ length row
+      → ((i : ℕ) → i < length old → get_or new i 0 ≡ (get_or old i 0 + c * get_or row (length old * t + i) 0) % p)
+      → Adds plan t old (record { coeff = c; mono = get_or monomials j unit } ∷ []) new
+  adds_read p t c monomials rows list j item row old new s k a l q r w fits fits' long sum =
       adds_row t c (get_or monomials j unit) row old new (All-get_or (IsAffine (curve_of plan).variables) monomials j unit l a)
       (row_read monomials rows list j item row k l q r w) fits fits' long
       (subst (λ z. (i : ℕ) → i < length old → get_or new i 0 ≡ (get_or old i 0 + c * get_or row (length old * t + i) 0) % z) s sum)

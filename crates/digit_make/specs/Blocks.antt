@@ -1,5 +1,5 @@
 -- The digits of a polynomial block by block: its expansion by powers of d.
-use Rattle.std.specs.Prelude.{◌≡◌, ℕ, suc, ◌+◌, ◌*◌, ◌<◌, List, length, slice_index, slice_index_or}
+use Rattle.std.specs.Prelude.{◌≡◌, ℕ, suc, ◌+◌, ◌*◌, ◌<◌, ◌≤◌, List, length, slice_index, slice_index_or, All}
 use Rattle.monomials.specs.Mono.{Monomial, unit}
 use Rattle.polys.specs.declared.term.Term.{Term}
 use Rattle.polys.specs.Curve.{CurveData}
@@ -22,3 +22,23 @@ IsKnown A ms m row = (T : ℕ) × AreDigits A ms T (polynomial_of m) row
 pub record AreKnown (A : CurveData) (ms : List Monomial) (monomials : List Monomial) (rows : List (List ℕ)) : Type 0 where
   pub count : length rows ≡ length monomials
   pub each : (j : ℕ) (d : List ℕ) → j < length monomials → IsKnown A ms (slice_index_or monomials j unit) (slice_index_or rows j d)
+
+-- the row has whole blocks of n entries, at least as many as the first bound and at most as many as the second
+pub record HasBlocks (n least most : ℕ) (row : List ℕ) : Type 0 where
+  pub count : ℕ
+  pub enough : least ≤ count
+  pub within : count ≤ most
+  pub whole : length row ≡ n * count
+
+-- each row has blocks of n entries
+abbrev pub HaveBlocks : (n least most : ℕ) → List (List ℕ) → Type 0
+HaveBlocks n least most rows = All (HasBlocks n least most) rows
+
+-- each row has t blocks of n entries, and the first j rows one more
+pub record AreGrown (n t most j : ℕ) (rows : List (List ℕ)) : Type 0 where
+  pub all : (k : ℕ) (d : List ℕ) → k < length rows → HasBlocks n t most (slice_index_or rows k d)
+  pub first : (k : ℕ) (d : List ℕ) → k < j → k < length rows → HasBlocks n (t + 1) most (slice_index_or rows k d)
+
+-- each row has the length
+abbrev pub AreLong : ℕ → List (List ℕ) → Type 0
+AreLong long rows = All (λ row. length row ≡ long) rows

@@ -1,7 +1,8 @@
 -- What holds of a plan.
-use Rattle.std.specs.Prelude.{◌≡◌, ℕ, ◌+◌, ◌*◌, ◌<◌, ◌≤◌, List, length, map, slice_index_or, All}
+use Rattle.std.specs.Prelude.{◌≡◌, ℕ, ◌+◌, ◌-◌, ◌*◌, ◌<◌, ◌≤◌, List, [], length, map, slice_index, slice_index_or, All, Contains}
+use Rattle.std.specs.declared.cmp.Ordering.TheVariants.{Greater}
 use Rattle.prime_field.specs.Primes.{IsPrime}
-use Rattle.monomials.specs.Mono.{Monomial, unit, times, variable}
+use Rattle.monomials.specs.Mono.{Monomial, unit, times, variable, cmp_dp}
 use Rattle.polys.specs.declared.term.Term.{Term}
 use Rattle.polys.specs.Terms.{IsAffine, IsPoly, add, sub, mul, normal}
 use Rattle.polys.specs.Ideal.{InIdeal, number_combination}
@@ -14,7 +15,7 @@ use Rattle.digit_space.specs.declared.products.Product.TheVariants.{Corner as At
 use Rattle.lift_colon.specs.Lifted.{LiftedData}
 use Rattle.digit_make.specs.Blocks.{AreKnown, IsBlock}
 use Rattle.digit_make.specs.Making.{AreLifts, curve_of_lifted}
-use Rattle.digit_make.specs.Playing.{AreClosed, AreVariables, IsBorder, IsCovered, IsOuter}
+use Rattle.digit_make.specs.Playing.{AreClosed, AreRising, AreVariables, IsBorder, IsCovered, IsOuter}
 use Rattle.digit_make.specs.declared.rules.Play.{Play}
 use Rattle.digit_make.specs.declared.plan.Place.{Place}
 use Rattle.digit_make.specs.declared.plan.Place.TheVariants.{Corner, Border, Outer}
@@ -72,6 +73,15 @@ IsRuleIn A corners border outer m (Multiple v place) =
 abbrev pub IsMultipleRule : ℕ → (corners border outer : List Monomial) → Monomial → Rule → Type 0
 IsMultipleRule v corners border outer m rule =
     (place : Place) × (rule ≡ Multiple v place) × IsOutsidePlace border outer place × (times (monomial_in corners border outer place) (variable v) ≡ m)
+
+-- each share is one of a corner
+abbrev pub AreInner : (corners : List Monomial) → List Share → Type 0
+AreInner corners shares = All (λ s. IsPlaceIn corners [] [] s.place) shares
+
+-- the tail of a lead has corners alone, and a monomial that is multiplied is in one of the lists
+abbrev pub NamesOnly : (corners border around : List Monomial) → Rule → Type 0
+NamesOnly corners border around (Lead tail lift) = AreInner corners tail
+NamesOnly corners border around (Multiple v place) = IsOutsidePlace border around place
 
 -- what holds of the monomials in play for these bases
 pub record IsPlay (l : LiftedData) (play : Play) : Type 0 where
@@ -142,13 +152,44 @@ pub record IsPlan (plan : Plan) : Type 0 where
   pub border : All (IsAffine (curve_of plan).variables) plan.border
   pub outer : All (IsAffine (curve_of plan).variables) plan.outer
   pub products : AreProductsIn (curve_of plan).variables plan.corners plan.border plan.products
+  pub rising : AreRising plan.corners plan.border plan.outer
+  pub outside : (m : Monomial) → Contains plan.border m → Contains plan.corners m → ⊥
   pub border_rules : AreRules plan plan.border plan.border_rules
+  pub inner : All (NamesOnly plan.corners plan.border []) plan.border_rules
   pub outer_rules : AreRules plan plan.outer plan.outer_rules
+  pub further : All (NamesOnly plan.corners plan.border plan.outer) plan.outer_rules
 
 -- the rows have digits of the monomials outside the corners
 pub record AreRowsOf (plan : Plan) (rows : Rows) : Type 0 where
   pub border : AreKnown (curve_of plan) plan.corners plan.border rows.border
   pub outer : AreKnown (curve_of plan) plan.corners plan.outer rows.outer
+
+-- the row has its block number t
+abbrev pub HasBlock : Plan → ℕ → List ℕ → Type 0
+HasBlock plan t row = length plan.corners * t + length plan.corners ≤ length row
+
+-- the monomial at the place has its block number t: a corner always, and another one where its row has it
+abbrev pub HasBlockAt : Plan → Rows → ℕ → Place → Type 0
+HasBlockAt plan rows t (Corner i) = 0 ≤ t
+HasBlockAt plan rows t (Border j) = HasBlock plan t (slice_index_or rows.border j [])
+HasBlockAt plan rows t (Outer j) = HasBlock plan t (slice_index_or rows.outer j [])
+
+-- the products of the variable v and the corners with factors have their block number t
+abbrev pub HaveFactorRows : Plan → Rows → ℕ → ℕ → List ℕ → Type 0
+HaveFactorRows plan rows t v factors =
+    (i : ℕ) (place : Place) → i < length plan.corners → (slice_index factors i ≡ 0 → ⊥) → IsPlaceIn plan.corners plan.border [] place
+    → monomial_at plan place ≡ times (slice_index_or plan.corners i unit) (variable v) → HasBlockAt plan rows t place
+
+-- the border has the blocks before that with number t, and this one at each product of the variable v and a corner that is not above m
+pub record HaveProductRows (plan : Plan) (rows : Rows) (t v : ℕ) (m : Monomial) : Type 0 where
+  pub before : (j : ℕ) → j < length plan.border → length plan.corners * t ≤ length (slice_index_or rows.border j [])
+  pub last : (i j : ℕ) → i < length plan.corners → j < length plan.border → (cmp_dp (slice_index_or plan.corners i unit) m ≡ Greater → ⊥)
+      → slice_index_or plan.border j unit ≡ times (slice_index_or plan.corners i unit) (variable v) → HasBlock plan t (slice_index_or rows.border j [])
+
+-- the blocks that the rule needs for the block number t are there
+abbrev pub IsReadyFor : Plan → Rows → ℕ → Rule → Type 0
+IsReadyFor plan rows t (Lead tail lift) = AreInner plan.corners tail × (0 < t → All (λ s. HasBlockAt plan rows (t - 1) s.place) lift)
+IsReadyFor plan rows t (Multiple v place) = HasBlockAt plan rows t place × HaveProductRows plan rows t v (monomial_at plan place)
 
 -- from the block number t of any f the row has become that of f + g
 abbrev pub Adds : Plan → ℕ → List ℕ → List Term → List ℕ → Type 0

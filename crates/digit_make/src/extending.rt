@@ -4,7 +4,7 @@ ghost use Rattle.polys.specs.Curve.{data_of};
 ghost use Rattle.polys.specs.Terms.{IsAffine};
 ghost use Rattle.digit_space.specs.Model.{AreFirstDigits};
 ghost use Rattle.standard_monomials.specs.Standard.{polynomial_of};
-ghost use Rattle.digit_make.specs.Blocks.{AreKnown, IsKnown};
+ghost use Rattle.digit_make.specs.Blocks.{AreKnown, HasBlocks, HaveBlocks, IsKnown};
 ghost use Rattle.digit_make.specs.Making.{HasFirstBlocks, IsLiftedOf};
 
 use crate::blocks::zero_block;
@@ -41,7 +41,8 @@ fn product_row<'a>(digits: &'a Digits, v: u32, m: &Mono) -> Option<&'a [u32]>
 // The digits of the monomial as far as the border rows have them.
 fn border_row(alloc: Global, digits: &Digits, m: &Mono) -> Result<List<u32>, NoMemory>
     requires { IsAffine digits.now.curve.variables m.now }
-    ensures { IfOk result (IsKnown (data_of digits.now.curve) digits.now.basis m.now) }
+    ensures known { IfOk result (IsKnown (data_of digits.now.curve) digits.now.basis m.now) }
+    ensures blocks { IfOk result (HasBlocks (length digits.now.basis) 0 digits.now.depth) }
 {
     let wide = digits.basis().len() * digits.depth() as usize;
     for v in 0..digits.curve().variables {
@@ -54,7 +55,8 @@ fn border_row(alloc: Global, digits: &Digits, m: &Mono) -> Result<List<u32>, NoM
 
 // The digits of the outer row number `j`, if it is the monomial's.
 fn digits_at<'a>(digits: &'a Digits, j: usize, m: &Mono) -> Option<&'a [u32]>
-    ensures { IfSome result (λ row. IsKnown (data_of digits.now.curve) digits.now.basis m.now row.now) }
+    ensures known { IfSome result (λ row. IsKnown (data_of digits.now.curve) digits.now.basis m.now row.now) }
+    ensures blocks { IfSome result (λ row. HasBlocks (length digits.now.basis) 0 (digits.now.depth - 1) row.now) }
 {
     let outer = digits.outer();
     if outer.len() <= j {
@@ -69,7 +71,8 @@ fn digits_at<'a>(digits: &'a Digits, j: usize, m: &Mono) -> Option<&'a [u32]>
 
 // The digits of the monomial that an outer row has, if it is among them.
 fn outer_digits<'a>(digits: &'a Digits, m: &Mono) -> Option<&'a [u32]>
-    ensures { IfSome result (λ row. IsKnown (data_of digits.now.curve) digits.now.basis m.now row.now) }
+    ensures known { IfSome result (λ row. IsKnown (data_of digits.now.curve) digits.now.basis m.now row.now) }
+    ensures blocks { IfSome result (λ row. HasBlocks (length digits.now.basis) 0 (digits.now.depth - 1) row.now) }
 {
     match digits
         .outer()
@@ -83,7 +86,8 @@ fn outer_digits<'a>(digits: &'a Digits, m: &Mono) -> Option<&'a [u32]>
 // The digits of the monomial as far as the outer rows have them.
 fn outer_row(alloc: Global, digits: &Digits, m: &Mono) -> Result<List<u32>, NoMemory>
     requires { IsAffine digits.now.curve.variables m.now }
-    ensures { IfOk result (IsKnown (data_of digits.now.curve) digits.now.basis m.now) }
+    ensures known { IfOk result (IsKnown (data_of digits.now.curve) digits.now.basis m.now) }
+    ensures blocks { IfOk result (HasBlocks (length digits.now.basis) 0 (digits.now.depth - 1)) }
 {
     let _basis = digits.basis();
     match outer_digits(digits, m) {
@@ -99,7 +103,8 @@ fn border_rows(
     monomials: &[Mono],
 ) -> Result<List<List<u32>>, NoMemory>
     requires { All (IsAffine digits.now.curve.variables) monomials.now }
-    ensures { IfOk result (AreKnown (data_of digits.now.curve) digits.now.basis monomials.now) }
+    ensures known { IfOk result (AreKnown (data_of digits.now.curve) digits.now.basis monomials.now) }
+    ensures blocks { IfOk result (HaveBlocks (length digits.now.basis) 0 digits.now.depth) }
 {
     let mut rows = List::new(alloc);
     for j in 0..monomials.len() {
@@ -116,7 +121,8 @@ fn outer_rows(
     monomials: &[Mono],
 ) -> Result<List<List<u32>>, NoMemory>
     requires { All (IsAffine digits.now.curve.variables) monomials.now }
-    ensures { IfOk result (AreKnown (data_of digits.now.curve) digits.now.basis monomials.now) }
+    ensures known { IfOk result (AreKnown (data_of digits.now.curve) digits.now.basis monomials.now) }
+    ensures blocks { IfOk result (HaveBlocks (length digits.now.basis) 0 (digits.now.depth - 1)) }
 {
     let mut rows = List::new(alloc);
     for j in 0..monomials.len() {

@@ -1,5 +1,6 @@
 // Rows that grow block by block.
-ghost use Rattle.std.specs.Prelude.{◌≡◌, ◌++◌, ◌<◌, ◌≤◌, [], length, slice_index_or, slice_set, IfOk, OnOk};
+ghost use Rattle.std.specs.Prelude.{◌≡◌, ◌++◌, ◌+◌, ◌*◌, ◌-◌, ◌<◌, ◌≤◌, [], length, slice_index_or, slice_set, IfOk, OnOk};
+ghost use Rattle.digit_make.specs.Blocks.{AreGrown, AreLong, HaveBlocks};
 ghost use Rattle.digit_make.specs.Planned.{IsPlan, AreRowsOf};
 
 use crate::blocks::block_of;
@@ -42,19 +43,24 @@ fn with_longer(
     Ok(List::of_vec(rows))
 }
 
-// Adds the block number `t` to the row number `j` of the border, if it has just the blocks before.
+// Adds the block number `t` to the row number `j` of the border, if it has just the blocks before; no row has more than `most` blocks.
 fn grow_border_row(
     alloc: Global,
     plan: &Plan,
     rows: &mut Rows,
     t: usize,
+    most: usize,
     j: usize,
 ) -> Result<(), NoMemory>
     requires plan { IsPlan plan.now }
     requires rows { AreRowsOf plan.now rows.old }
-    requires deep { t ≤ 200 }
+    requires deep { (t < most) × (most ≤ 200) }
+    requires grown { AreGrown (length plan.now.corners) t most j rows.old.border }
+    requires outer { AreGrown (length plan.now.corners) t (most - 1) 0 rows.old.outer }
     requires j { j < length plan.now.border }
-    ensures { OnOk result (AreRowsOf plan.now rows.new) }
+    ensures rows { OnOk result (AreRowsOf plan.now rows.new) }
+    ensures grown { OnOk result (AreGrown (length plan.now.corners) t most (j + 1) rows.new.border) }
+    ensures outer { OnOk result (rows.new.outer ≡ rows.old.outer) }
 {
     if rows.border.as_slice()[j].len() != plan.corners.len() * t {
         return Ok(());
@@ -67,19 +73,24 @@ fn grow_border_row(
     Ok(())
 }
 
-// Adds the block number `t` to the outer row number `j`, if it has just the blocks before.
+// Adds the block number `t` to the outer row number `j`, if it has just the blocks before; no row has more than `most` blocks.
 fn grow_outer_row(
     alloc: Global,
     plan: &Plan,
     rows: &mut Rows,
     t: usize,
+    most: usize,
     j: usize,
 ) -> Result<(), NoMemory>
     requires plan { IsPlan plan.now }
     requires rows { AreRowsOf plan.now rows.old }
-    requires deep { t ≤ 200 }
+    requires deep { (t < most) × (most ≤ 200) }
+    requires grown { AreGrown (length plan.now.corners) t most j rows.old.outer }
+    requires border { AreGrown (length plan.now.corners) (t + 1) (most + 1) 0 rows.old.border }
     requires j { j < length plan.now.outer }
-    ensures { OnOk result (AreRowsOf plan.now rows.new) }
+    ensures rows { OnOk result (AreRowsOf plan.now rows.new) }
+    ensures grown { OnOk result (AreGrown (length plan.now.corners) t most (j + 1) rows.new.outer) }
+    ensures border { OnOk result (rows.new.border ≡ rows.old.border) }
 {
     if rows.outer.as_slice()[j].len() != plan.corners.len() * t {
         return Ok(());
@@ -93,27 +104,50 @@ fn grow_outer_row(
 }
 
 // Adds the block number `t` to each row of the border that lacks it.
-fn grow_border(alloc: Global, plan: &Plan, rows: &mut Rows, t: usize) -> Result<(), NoMemory>
+fn grow_border(
+    alloc: Global,
+    plan: &Plan,
+    rows: &mut Rows,
+    t: usize,
+    most: usize,
+) -> Result<(), NoMemory>
     requires plan { IsPlan plan.now }
     requires rows { AreRowsOf plan.now rows.old }
-    requires deep { t ≤ 200 }
-    ensures { OnOk result (AreRowsOf plan.now rows.new) }
+    requires deep { (t < most) × (most ≤ 200) }
+    requires grown { AreGrown (length plan.now.corners) t most 0 rows.old.border }
+    requires outer { AreGrown (length plan.now.corners) t (most - 1) 0 rows.old.outer }
+    ensures rows { OnOk result (AreRowsOf plan.now rows.new) }
+    ensures grown { OnOk result (AreGrown (length plan.now.corners) (t + 1) most 0 rows.new.border) }
+    ensures outer { OnOk result (rows.new.outer ≡ rows.old.outer) }
 {
     for j in 0..plan.border.len() {
-        grow_border_row(alloc, plan, rows, t, j)?;
+        grow_border_row(alloc, plan, rows, t, most, j)?;
     }
     Ok(())
 }
 
-// Adds the block number `t` to each outer row that lacks it.
-fn grow_outer(alloc: Global, plan: &Plan, rows: &mut Rows, t: usize) -> Result<(), NoMemory>
+// Gives each outer row that lacks it its block number `t` - 1, if 0 < t: so each has `t` blocks.
+fn grow_outer(
+    alloc: Global,
+    plan: &Plan,
+    rows: &mut Rows,
+    t: usize,
+    most: usize,
+) -> Result<(), NoMemory>
     requires plan { IsPlan plan.now }
     requires rows { AreRowsOf plan.now rows.old }
-    requires deep { t ≤ 200 }
-    ensures { OnOk result (AreRowsOf plan.now rows.new) }
+    requires deep { (t ≤ most) × (most ≤ 200) }
+    requires grown { AreGrown (length plan.now.corners) (t - 1) most 0 rows.old.outer }
+    requires border { AreGrown (length plan.now.corners) t (most + 1) 0 rows.old.border }
+    ensures rows { OnOk result (AreRowsOf plan.now rows.new) }
+    ensures grown { OnOk result (AreGrown (length plan.now.corners) t most 0 rows.new.outer) }
+    ensures border { OnOk result (rows.new.border ≡ rows.old.border) }
 {
+    if t == 0 {
+        return Ok(());
+    }
     for j in 0..plan.outer.len() {
-        grow_outer_row(alloc, plan, rows, t, j)?;
+        grow_outer_row(alloc, plan, rows, t - 1, most, j)?;
     }
     Ok(())
 }
@@ -131,13 +165,15 @@ pub(crate) fn grow(
     requires plan { IsPlan plan.now }
     requires rows { AreRowsOf plan.now rows.old }
     requires deep { depth ≤ 200 }
-    ensures { OnOk result (AreRowsOf plan.now rows.new) }
+    requires border { HaveBlocks (length plan.now.corners) 0 depth rows.old.border }
+    requires outer { HaveBlocks (length plan.now.corners) 0 (depth - 1) rows.old.outer }
+    ensures rows { OnOk result (AreRowsOf plan.now rows.new) }
+    ensures border { OnOk result (AreLong (length plan.now.corners * depth) rows.new.border) }
+    ensures outer { OnOk result (AreLong (length plan.now.corners * (depth - 1)) rows.new.outer) }
 {
     for t in 0..depth {
-        if 0 < t {
-            grow_outer(alloc, plan, rows, t - 1)?;
-        }
-        grow_border(alloc, plan, rows, t)?;
+        grow_outer(alloc, plan, rows, t, depth - 1)?;
+        grow_border(alloc, plan, rows, t, depth)?;
     }
     Ok(())
 }

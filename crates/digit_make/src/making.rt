@@ -3,6 +3,7 @@ ghost use Rattle.std.specs.Prelude.{◌≡◌, ◌++◌, ◌*◌, ◌-◌, ◌<�
 ghost use Rattle.polys.specs.Curve.{Fit, data_of};
 ghost use Rattle.polys.specs.Terms.{IsAffine};
 ghost use Rattle.digit_laws.specs.Digits.{AreCornersOf};
+ghost use Rattle.digit_make.specs.Blocks.{AreLong, HaveBlocks};
 ghost use Rattle.digit_make.specs.Making.{IsLiftedOf, AreTrimmed, AreOuter, curve_of_lifted};
 ghost use Rattle.digit_make.specs.Planned.{IsPlan, IsPlay, AreRowsOf};
 ghost use Rattle.digit_make.specs.Playing.{AreClosed};
@@ -119,39 +120,25 @@ fn trimmed(alloc: Global, row: &[u32]) -> Result<List<u32>, NoMemory>
     Ok(made)
 }
 
-// The row, which has the length, without the zeros at its end.
-fn border_row(alloc: Global, wide: usize, row: &[u32]) -> Result<List<u32>, NoMemory>
-    ensures long { IfOk result (λ _. length row.now ≡ wide) }
-    ensures short { IfOk result (λ made. length made ≤ wide) }
-    ensures zeros { IfOk result (λ made. made ++ replicate (wide - length made) 0 ≡ row.now) }
-{
-    if row.len() != wide {
-        return Err(NoMemory);
-    }
-    trimmed(alloc, row)
-}
-
 // The rows of the border, each of the length, without the zeros at their ends.
 fn border_rows(alloc: Global, wide: usize, rows: &[List<u32>]) -> Result<List<List<u32>>, NoMemory>
+    requires { AreLong wide rows.now }
     ensures { IfOk result (AreTrimmed wide rows.now) }
 {
+    let _wide = wide;
     let mut border = List::new(alloc);
     for j in 0..rows.len() {
-        let row = border_row(alloc, wide, rows[j].as_slice())?;
+        let row = trimmed(alloc, rows[j].as_slice())?;
         border.push(row)?;
     }
     Ok(border)
 }
 
-// The monomial with its row, which has the length.
-fn outer_row(alloc: Global, wide: usize, monomial: &Mono, row: &[u32]) -> Result<OuterRow, NoMemory>
+// The monomial with its row.
+fn outer_row(alloc: Global, monomial: &Mono, row: &[u32]) -> Result<OuterRow, NoMemory>
     ensures monomial { IfOk result (λ made. made.monomial ≡ monomial.now) }
     ensures digits { IfOk result (λ made. made.digits ≡ row.now) }
-    ensures long { IfOk result (λ _. length row.now ≡ wide) }
 {
-    if row.len() != wide {
-        return Err(NoMemory);
-    }
     let digits = List::from_slice(alloc, row)?;
     Ok(OuterRow {
         monomial: *monomial,
@@ -166,12 +153,14 @@ fn outer_rows(
     monomials: &[Mono],
     rows: &[List<u32>],
 ) -> Result<List<OuterRow>, NoMemory>
-    requires { length rows.now ≡ length monomials.now }
+    requires count { length rows.now ≡ length monomials.now }
+    requires long { AreLong wide rows.now }
     ensures { IfOk result (AreOuter wide monomials.now rows.now) }
 {
+    let _wide = wide;
     let mut outer = List::new(alloc);
     for j in 0..monomials.len() {
-        let made = outer_row(alloc, wide, &monomials[j], rows[j].as_slice())?;
+        let made = outer_row(alloc, &monomials[j], rows[j].as_slice())?;
         outer.push(made)?;
     }
     Ok(outer)
@@ -187,6 +176,8 @@ pub(crate) fn digits_from(
     requires plan { IsPlan plan }
     requires rows { AreRowsOf plan rows }
     requires depth { depth ≤ 200 }
+    requires border { HaveBlocks (length plan.corners) 0 depth rows.border }
+    requires outer { HaveBlocks (length plan.corners) 0 (depth - 1) rows.outer }
     ensures { IfOk result (λ g. g ≡ record { curve = plan.curve.value; basis = plan.corners; depth = depth }) }
 {
     let mut rows = rows;

@@ -1,16 +1,16 @@
 // How the digits of each monomial outside the corners come from those of others.
-ghost use Rattle.std.specs.Prelude.{◌≡◌, ◌⊎◌, ◌+◌, ◌*◌, ◌<◌, ◌≤◌, List, length, slice_index_or, All, Contains, IfNone, IfOk, OnOk, IfSome};
+ghost use Rattle.std.specs.Prelude.{◌≡◌, ◌⊎◌, ◌+◌, ◌*◌, ◌<◌, ◌≤◌, List, [], length, slice_index_or, All, Contains, IfNone, IfOk, OnOk, IfSome};
 ghost use Rattle.std.specs.Bool.{MatchBool};
-ghost use Rattle.monomials.specs.Mono.{times, variable};
+ghost use Rattle.monomials.specs.Mono.{Monomial, times, variable};
 ghost use Rattle.polys.specs.declared.term.Term.{Term};
 ghost use Rattle.polys.specs.Curve.{IsOver};
 ghost use Rattle.polys.specs.Poly.{Polynomial, terms_of};
-ghost use Rattle.polys.specs.Terms.{IsAffine, sub};
+ghost use Rattle.polys.specs.Terms.{EachMono, IsAffine, sub};
 ghost use Rattle.lift_colon.specs.Lifted.{IsLift, IsLifted};
 ghost use Rattle.standard_monomials.specs.Standard.{IsRising, polynomial_of};
 ghost use Rattle.digit_make.specs.Making.{curve_of_lifted};
 ghost use Rattle.digit_make.specs.Playing.{AreClosed, AreRising, AreVariables, HasLead, HasParent, HasQuotientIn, IsBorder, IsCovered, IsInPlay, chosen, seen};
-ghost use Rattle.digit_make.specs.Planned.{monomial_in, IsMultipleRule, IsPlaceIn, IsOutsidePlace, IsPlay, terms_in, AreSharesIn, IsRuleIn, AreRulesIn, IsFoundIn, AreFirstProducts};
+ghost use Rattle.digit_make.specs.Planned.{monomial_in, IsMultipleRule, IsPlaceIn, IsOutsidePlace, IsPlay, terms_in, AreInner, AreSharesIn, IsRuleIn, AreRulesIn, IsFoundIn, NamesOnly, AreFirstProducts};
 
 use crate::plan::{Place, Rule, Share};
 use crate::planning::{find, multiple, quotient};
@@ -96,6 +96,7 @@ fn product_of(corners: &[Mono], border: &[Mono], m: &Mono) -> Product
 // The place of the monomial outside the corners, within the border if that is asked.
 fn outside_place(play: &Play, inside: bool, m: &Mono) -> Option<Place>
     requires { AreRising play.now.corners play.now.border play.now.outer }
+    ensures inner { IfSome result (IsOutsidePlace play.now.border (seen inside play.now.outer)) }
     ensures some { IfSome result (λ place. IsOutsidePlace play.now.border play.now.outer place × (m.now ≡ monomial_in play.now.corners play.now.border play.now.outer place)) }
     ensures none { IfNone result (Contains play.now.border m.now ⊎ Contains (seen inside play.now.outer) m.now → ⊥) }
 {
@@ -117,6 +118,7 @@ fn place_of(play: &Play, m: &Mono) -> Place
     requires known { IsInPlay play.now.corners play.now.border play.now.outer m.now }
     ensures place { IsPlaceIn play.now.corners play.now.border play.now.outer result }
     ensures monomial { m.now ≡ monomial_in play.now.corners play.now.border play.now.outer result }
+    ensures inner { Contains play.now.corners m.now → IsPlaceIn play.now.corners [] [] result }
 {
     if let Some(i) = find(play.corners.as_slice(), m) {
         return Place::Corner(i);
@@ -133,6 +135,7 @@ fn shares_of(alloc: Global, play: &Play, f: &Poly) -> Result<List<Share>, NoMemo
     requires known { IsCovered play.now.corners play.now.border play.now.outer f.now.terms }
     ensures shares { IfOk result (AreSharesIn f.now.prime play.now.corners play.now.border play.now.outer) }
     ensures terms { IfOk result (λ shares. terms_in play.now.corners play.now.border play.now.outer shares ≡ f.now.terms) }
+    ensures inner { EachMono (Contains play.now.corners) f.now.terms → IfOk result (AreInner play.now.corners) }
 {
     let terms = f.terms();
     let mut shares = List::new(alloc);
@@ -161,9 +164,11 @@ fn lead_rule(
     requires prime { lift.now.prime ≡ lifted.now.prime }
     requires lift { IsLift lifted.now g.now.terms lift.now.terms }
     requires rising { AreRising play.now.corners play.now.border play.now.outer }
+    requires inner { EachMono (Contains play.now.corners) (sub lifted.now.prime (polynomial_of m.now) g.now.terms) }
     requires tail { IsCovered play.now.corners play.now.border play.now.outer (sub lifted.now.prime (polynomial_of m.now) g.now.terms) }
     requires covered { IsCovered play.now.corners play.now.border play.now.outer lift.now.terms }
-    ensures { IfOk result (IsRuleIn (curve_of_lifted lifted.now) play.now.corners play.now.border play.now.outer m.now) }
+    ensures rule { IfOk result (IsRuleIn (curve_of_lifted lifted.now) play.now.corners play.now.border play.now.outer m.now) }
+    ensures inner { (around : List Monomial) → IfOk result (NamesOnly play.now.corners play.now.border around) }
 {
     let prime = lifted.prime();
     let _p = prime.get();
@@ -207,6 +212,7 @@ fn rule_by(play: &Play, inside: bool, m: &Mono, v: u32) -> Option<Rule>
     requires v { v < 6 }
     requires rising { AreRising play.now.corners play.now.border play.now.outer }
     ensures some { IfSome result (IsMultipleRule v play.now.corners play.now.border play.now.outer m.now) }
+    ensures inner { IfSome result (NamesOnly play.now.corners play.now.border (seen inside play.now.outer)) }
     ensures none { IfNone result (HasQuotientIn v play.now.border (seen inside play.now.outer) m.now → ⊥) }
 {
     match quotient(m, v) {
@@ -224,7 +230,8 @@ fn multiple_rule(lifted: &Lifted, play: &Play, inside: bool, m: &Mono) -> Rule
     requires order { AreVariables lifted.now.variables play.now.order.items }
     requires rising { AreRising play.now.corners play.now.border play.now.outer }
     requires parent { HasParent lifted.now.variables play.now.border (seen inside play.now.outer) m.now }
-    ensures { IsRuleIn (curve_of_lifted lifted.now) play.now.corners play.now.border play.now.outer m.now result }
+    ensures rule { IsRuleIn (curve_of_lifted lifted.now) play.now.corners play.now.border play.now.outer m.now result }
+    ensures inner { NamesOnly play.now.corners play.now.border (seen inside play.now.outer) result }
 {
     let _variables = lifted.variables();
     let order = play.order.as_slice();
@@ -246,7 +253,8 @@ fn rule_of(
 ) -> Result<Rule, NoMemory>
     requires play { IsPlay lifted.now play.now }
     requires m { Contains (chosen inside play.now.border play.now.outer) m.now }
-    ensures { IfOk result (IsRuleIn (curve_of_lifted lifted.now) play.now.corners play.now.border play.now.outer m.now) }
+    ensures rule { IfOk result (IsRuleIn (curve_of_lifted lifted.now) play.now.corners play.now.border play.now.outer m.now) }
+    ensures inner { IfOk result (NamesOnly play.now.corners play.now.border (seen inside play.now.outer)) }
 {
     let basis = lifted.sum_basis();
     match with_lead(basis, m) {
@@ -265,7 +273,8 @@ pub(crate) fn rules_of(
 ) -> Result<List<Rule>, NoMemory>
     requires play { IsPlay lifted.now play.now }
     requires each { All (Contains (chosen inside play.now.border play.now.outer)) monomials.now }
-    ensures { IfOk result (AreRulesIn (curve_of_lifted lifted.now) play.now.corners play.now.border play.now.outer monomials.now) }
+    ensures rules { IfOk result (AreRulesIn (curve_of_lifted lifted.now) play.now.corners play.now.border play.now.outer monomials.now) }
+    ensures inner { IfOk result (All (NamesOnly play.now.corners play.now.border (seen inside play.now.outer))) }
 {
     let mut rules = List::new(alloc);
     for i in 0..monomials.len() {

@@ -13,9 +13,9 @@ loop-k-preserved c =
     let d : Share = record { coeff = 0; place = Corner 0 } in
     let s : Share = get_or c.args.shares.now c.loop-k.k d in
     record {
-      fits = c.in_ok-add_block.ensures.fits;
+      fits = c.add_block.ensures.fits;
       adds = shares_step c.args.plan.now c.requires.plan c.args.t c.loop-k.k c.args.shares.now s c.args.out.now c.loop-k.out c.add_block.new.out c.requires.shares c.loop-k-test.true
-          (get_or_default c.args.shares.now c.loop-k.k d s c.loop-k-test.true) c.loop-k.invariant.adds c.in_ok-add_block.ensures.adds;
+          (get_or_default c.args.shares.now c.loop-k.k d s c.loop-k-test.true) c.loop-k.invariant.adds c.add_block.ensures.adds;
     }
 
 pub returns-clause-adds : goal.returns-clause-adds

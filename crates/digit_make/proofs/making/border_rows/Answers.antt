@@ -1,5 +1,6 @@
 use Rattle.std.proofs.Common.{◌≡◌, ℕ, ◌+◌, ◌-◌, ◌<◌, ◌≤◌, ◌++◌, [], List, length, get_or, replicate, sym, ap, ◌∙◌, subst}
 use Rattle.std.proofs.lemmas.List.{length_push, get_or_default}
+use Rattle.std.proofs.lemmas.List.Elements.{All-get_or}
 use Rattle.digit_make.proofs.Found.{rows_push}
 use Rattle.digit_make.proofs.making.border_rows.Goals as goal
 
@@ -10,10 +11,12 @@ loop-j-preserved c =
     let ok = c.in_ok-push.ensures.ok in
     let j = c.loop-j.j in
     let read : c.as_slice.result.now ≡ get_or c.args.rows.now c.loop-j.j [] = c.as_slice.ensures ∙ c.index-rows-j.is ∙ get_or_default rows j c.index-rows-j.result [] c.loop-j-test.true in
+    let long : length (get_or c.args.rows.now c.loop-j.j []) ≡ c.args.wide = All-get_or (λ r. length r ≡ c.args.wide) rows j [] c.loop-j-test.true c.requires in
+    let wide : length c.as_slice.result.now ≡ c.args.wide = ap length read ∙ long in
     let k = rows_push c.args.wide rows c.loop-j.border row j c.loop-j-test.true c.loop-j.invariant.count c.loop-j.invariant.each (
-      ap length (sym read) ∙ c.in_ok-row.ensures.long,
-      c.in_ok-row.ensures.short,
-      c.in_ok-row.ensures.zeros ∙ read,
+      long,
+      subst (λ z. length row ≤ z) wide c.in_ok-row.ensures.short,
+      subst (λ z. row ++ replicate (z - length row) 0 ≡ c.as_slice.result.now) wide c.in_ok-row.ensures.zeros ∙ read,
     ) in
     record {
       count = ap length ok ∙ length_push c.loop-j.border row ∙ ap (λ z. z + 1) c.loop-j.invariant.count;

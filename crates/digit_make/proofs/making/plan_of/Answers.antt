@@ -40,5 +40,8 @@ returns-clause-plan c =
       each = subst (λ z. AreFirstProducts z play.border c.in_ok-products.products) c.as_slice.ensures
           (subst (λ z. AreFirstProducts c.as_slice.result.now z c.in_ok-products.products) c.as_slice-2.ensures c.in_ok-products.ensures.each);
     })
-    (subst (λ z. AreRulesIn A play.corners play.border play.outer z c.in_ok-border_rules.border_rules) c.as_slice-3.ensures c.in_ok-border_rules.ensures)
-    (subst (λ z. AreRulesIn A play.corners play.border play.outer z c.in_ok-outer_rules.outer_rules) c.as_slice-4.ensures c.in_ok-outer_rules.ensures)
+    (subst (λ z. AreRulesIn A play.corners play.border play.outer z c.in_ok-border_rules.border_rules) c.as_slice-3.ensures c.in_ok-border_rules.ensures.rules)
+    (subst (λ z. AreRulesIn A play.corners play.border play.outer z c.in_ok-outer_rules.outer_rules) c.as_slice-4.ensures c.in_ok-outer_rules.ensures.rules)
+    (record { corners = c.in_ok-play.ensures.play.closed.rising; around = c.in_ok-play.ensures.play.border.rising; further = c.in_ok-play.ensures.play.outer.rising })
+    (λ m k. ((c.in_ok-play.ensures.play.border.members m).0 k).2.outside)
+    c.in_ok-border_rules.ensures.inner c.in_ok-outer_rules.ensures.inner

@@ -13,8 +13,8 @@ rule_by-requires-clause-v c =
     let s = c.requires.variables in
     omega arith
 
-pub returns-in-Some : goal.returns-in-Some
-returns-in-Some c =
+pub returns-in-Some-clause-rule : goal.returns-in-Some-clause-rule
+returns-in-Some-clause-rule c =
     let n = c.args.lifted.now.variables in
     let play = c.args.play.now in
     let l = variable_at n c.loop-k.k c.as_slice-order.result.now (subst (AreVariables n) (sym c.as_slice-order.ensures.value) c.requires.order) c.loop-k-test.true in

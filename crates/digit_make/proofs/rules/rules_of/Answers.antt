@@ -1,11 +1,12 @@
 use Rattle.std.proofs.Common.{ℕ, ◌+◌, ◌<◌, length, get_or, sym, ap, ◌∙◌, subst}
 use Rattle.std.proofs.lemmas.List.{length_push, get_or_default}
+use Rattle.std.proofs.lemmas.List.Elements.{All-push}
 use Rattle.monomials.specs.Mono.{unit}
 use Rattle.digit_make.specs.declared.plan.Rule.{Rule}
 use Rattle.digit_make.specs.Making.{curve_of_lifted}
-use Rattle.std.specs.List.{Contains}
-use Rattle.digit_make.specs.Playing.{chosen}
-use Rattle.digit_make.specs.Planned.{IsRuleIn}
+use Rattle.std.specs.List.{All, Contains}
+use Rattle.digit_make.specs.Playing.{chosen, seen}
+use Rattle.digit_make.specs.Planned.{IsRuleIn, NamesOnly}
 use Rattle.digit_make.proofs.Found.{each_push}
 use Rattle.digit_make.proofs.rules.rules_of.Goals as goal
 
@@ -22,7 +23,9 @@ loop-i-preserved c =
           (each_push (λ j r. IsRuleIn A play.corners play.border play.outer (get_or c.args.monomials.now j unit) r) rules rule c.loop-i.invariant.each
           (subst (λ z. IsRuleIn A play.corners play.border play.outer z rule)
           (c.index-monomials-i.is ∙ get_or_default c.args.monomials.now c.loop-i.i c.index-monomials-i.result unit c.loop-i-test.true ∙ ap (λ z. get_or c.args.monomials.now z unit) (sym c.loop-i.invariant.count))
-          c.in_ok-rule.ensures));
+          c.in_ok-rule.ensures.rule));
+      inner = subst (All (NamesOnly play.corners play.border (seen c.args.inside play.outer))) (sym ok)
+          (All-push (NamesOnly play.corners play.border (seen c.args.inside play.outer)) rules rule c.loop-i.invariant.inner c.in_ok-rule.ensures.inner);
     }
 
 pub rule_of-requires-clause-m : goal.rule_of-requires-clause-m

@@ -1,9 +1,11 @@
-use Rattle.std.proofs.Common.{◌≡◌, ◌+◌, take, sym, subst}
+use Rattle.std.proofs.Common.{◌≡◌, ◌+◌, [], take, sym, subst}
+use Rattle.std.specs.List.{Contains}
+use Rattle.std.proofs.lemmas.List.Elements.{All-push}
 use Rattle.monomials.specs.Mono.{Monomial}
 use Rattle.polys.specs.Terms.{EachMono, IsCanonical}
 use Rattle.digit_make.specs.Playing.{IsInPlay}
 use Rattle.digit_make.proofs.Playing.{each_mono_at}
-use Rattle.digit_make.specs.Planned.{AreSharesIn, terms_in}
+use Rattle.digit_make.specs.Planned.{AreInner, AreSharesIn, IsPlaceIn, terms_in}
 use Rattle.digit_make.proofs.Found.{shares_push}
 use Rattle.digit_make.proofs.rules.shares_of.Goals as goal
 
@@ -17,6 +19,10 @@ loop-i-preserved c =
     record {
       shares = subst (AreSharesIn p play.corners play.border play.outer) (sym c.in_ok-push.ensures.ok) k.0;
       terms = subst (λ z. terms_in play.corners play.border play.outer z ≡ take (c.loop-i.i + 1) ts) (sym c.in_ok-push.ensures.ok) k.1;
+      inner = λ h. subst (AreInner play.corners) (sym c.in_ok-push.ensures.ok)
+          (All-push (λ s. IsPlaceIn play.corners [] [] s.place) c.loop-i.shares (record { coeff = c.index-terms-i.result.coeff; place = c.place_of.result }) (c.loop-i.invariant.inner h)
+          (c.place_of.ensures.inner
+          (each_mono_at (Contains play.corners) ts c.loop-i.i c.index-terms-i.result c.loop-i-test.true c.index-terms-i.is (subst (EachMono (Contains play.corners)) (sym c.terms-terms.ensures.value) h))));
     }
 
 pub place_of-requires-clause-known : goal.place_of-requires-clause-known
