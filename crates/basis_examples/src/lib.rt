@@ -1,7 +1,9 @@
-//! Lifts and colon ideals that were worked by hand, as tests of `lift_colon`. They stand in a crate of their own, so
-//! that it is proved once.
+//! Lifts, colon ideals, candidates and denominators that were worked by hand, as tests of `lift_colon` and
+//! `jacobian_pick`. They stand in a crate of their own, so that those two are proved once.
 #![tactic(auto)]
 
+#[cfg(test)]
+mod choices;
 #[cfg(test)]
 mod lifts;
 #[cfg(test)]

@@ -19,7 +19,7 @@ pub(crate) fn problem_of(alloc: Global, text: &str) -> Result<Problem, Fail>
 }
 
 // Whether the polynomial is the one with this number.
-fn is_at(list: &[Poly], place: usize, f: &Poly) -> bool {
+pub(crate) fn is_at(list: &[Poly], place: usize, f: &Poly) -> bool {
     match list.get(place) {
         Some(g) => g.same(f),
         None => false,
