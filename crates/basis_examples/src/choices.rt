@@ -1,5 +1,5 @@
 // Problems whose candidates and denominators were worked out by hand.
-ghost use Rattle.std.specs.Prelude.{◌≡◌, ◌≤◌, IfOk};
+ghost use Rattle.std.specs.Prelude.{◌≤◌, IfOk};
 ghost use Rattle.problem.specs.Problem.{HasFitPolynomials};
 ghost use Rattle.jacobian_pick.specs.Lists.{IsBasisOf};
 
