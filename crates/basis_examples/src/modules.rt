@@ -1,5 +1,5 @@
-// Bases of graded modules by hand, modulo 7 in the variables x and y and the homogenising variable h. No problem's text has
-// h, so that the vectors are lists of terms.
+// Bases of graded modules by hand, modulo 7 in the variables x and y and the homogenising variable h. No problem's text
+// has h, so that the vectors are lists of terms.
 ghost use Rattle.std.specs.Prelude.{◌≡◌, ◌≤◌, All, IsTrue, IfOk};
 ghost use Rattle.polys.specs.Poly.{IsPlain, terms_of};
 ghost use Rattle.polys.specs.Terms.{EachMono};
@@ -272,8 +272,8 @@ fn deep_modules(rt: HostRuntime) -> Result<(), Fail> {
     Ok(())
 }
 
-// The basis of the module of (x^2, 1) and (y^2 h - x^3, 0), whose second unit vector has degree 2, or nothing where it is
-// deep.
+// The basis of the module of (x^2, 1) and (y^2 h - x^3, 0), whose second unit vector has degree 2, or nothing where it
+// is deep.
 fn basis_of_two(alloc: Global, cap: u32) -> Result<Option<GradedBasis>, Fail>
     requires some { 1 ≤ cap }
     requires within { cap ≤ 1000 }
