@@ -3,6 +3,5 @@ mod Lows
 mod Memberships
 mod Listings
 mod Choices
-mod Tested
 mod Monics
 mod Uniqueness

@@ -12,6 +12,3 @@ mod sums;
 pub use choosing::{PickStop, pick};
 pub use laws::choices_are_unique;
 pub use listing::candidates;
-
-#[cfg(test)]
-mod tests;

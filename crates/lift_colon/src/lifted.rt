@@ -305,6 +305,3 @@ impl Lifted {
         dimension_modulo(alloc, self.prime, self.variables, self.sum_basis(), limit)
     }
 }
-
-#[cfg(test)]
-mod tests;

@@ -7,5 +7,5 @@ mod Adding
 mod Advancing
 mod Whole
 mod Ideals
--- for the tests and the crates above: monomials in the first variables
+-- for the crates above: monomials in the first variables
 pub mod Tested

@@ -238,6 +238,3 @@ fn lowered_term(t: &Term) -> Term
         mono: t.mono.with_hom(0),
     }
 }
-
-#[cfg(test)]
-mod tests;

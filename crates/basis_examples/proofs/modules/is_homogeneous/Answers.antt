@@ -2,8 +2,8 @@ use Rattle.std.proofs.Common.{◌≡◌, sym, ◌∙◌, subst}
 use Rattle.polys.proofs.Each.{every_more_item}
 use Rattle.polys.specs.Poly.{IsVector}
 use Rattle.graded_modules.specs.Vector.{IsGenerator, degree_at}
-use Rattle.module_basis.proofs.Tested.{six_generator}
-use Rattle.module_basis.proofs.basis.tests.is_homogeneous.Goals as goal
+use Rattle.basis_examples.proofs.Vectors.{six_generator}
+use Rattle.basis_examples.proofs.modules.is_homogeneous.Goals as goal
 
 pub loop-t-preserved : goal.loop-t-preserved
 loop-t-preserved c =

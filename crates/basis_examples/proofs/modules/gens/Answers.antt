@@ -3,7 +3,7 @@ use Rattle.std.specs.List.{All}
 use Rattle.std.proofs.lemmas.List.{take_all}
 use Rattle.std.proofs.lemmas.List.Elements.{All-more}
 use Rattle.module_basis.specs.Gens.{IsHomogeneousOver}
-use Rattle.module_basis.proofs.basis.tests.gens.Goals as goal
+use Rattle.basis_examples.proofs.modules.gens.Goals as goal
 
 pub loop-k-preserved : goal.loop-k-preserved
 loop-k-preserved c =

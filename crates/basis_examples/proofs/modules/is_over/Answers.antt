@@ -1,6 +1,6 @@
 use Rattle.std.proofs.Common.{◌≡◌, subst}
 use Rattle.graded_modules.specs.Vector.{IsGenerator}
-use Rattle.module_basis.proofs.basis.tests.is_over.Goals as goal
+use Rattle.basis_examples.proofs.modules.is_over.Goals as goal
 
 pub returns : goal.returns
 returns c sure =

@@ -1,14 +1,13 @@
-// Values computed by hand modulo 7, in the variables x and y and the homogenising variable h.
-ghost use Rattle.std.specs.Prelude.{◌≡◌, ◌≤◌, ℕ, All, IsTrue, IfOk};
-ghost use Rattle.polys.specs.Curve.{IsOver};
+// Bases of graded modules by hand, modulo 7 in the variables x and y and the homogenising variable h. No problem's text
+// has h, so that the vectors are lists of terms.
+ghost use Rattle.std.specs.Prelude.{◌≡◌, ◌≤◌, All, IsTrue, IfOk};
 ghost use Rattle.polys.specs.Poly.{IsPlain, terms_of};
 ghost use Rattle.polys.specs.Terms.{EachMono};
 ghost use Rattle.graded_modules.specs.Vector.{IsGenerator};
 ghost use Rattle.module_basis.specs.Gens.{AreGens, IsHomogeneousOver};
 
-use super::graded_basis;
-use crate::{BasisStop, Gens, GradedBasis};
 use lists::List;
+use module_basis::{BasisStop, Gens, GradedBasis, graded_basis};
 use module_division::{degree_at, lead_mono};
 use monomials::Mono;
 use polys::{Poly, Term};
@@ -21,6 +20,9 @@ type Row = (u32, u32, u32, u32);
 
 // Polynomials or vectors of one component.
 type Rows<'a> = &'a [&'a [Row]];
+
+// A vector by its two components.
+type Parts<'a> = (&'a [Row], &'a [Row]);
 
 // The product with a variable, where the degree allows it.
 fn times(m: &Mono, v: u32) -> Result<Mono, Fail> {
@@ -60,9 +62,10 @@ fn polynomial(alloc: Global, p: Prime, component: u32, rows: &[Row]) -> Result<P
 }
 
 // The vector with these terms in the two components.
-fn vector(alloc: Global, p: Prime, first: &[Row], second: &[Row]) -> Result<Poly, Fail>
+fn vector(alloc: Global, p: Prime, parts: Parts) -> Result<Poly, Fail>
     ensures { IfOk result (λ f. f.prime ≡ p) }
 {
+    let (first, second) = parts;
     let upper = polynomial(alloc, p, 0, first)?;
     let sum = upper.add(&polynomial(alloc, p, 1, second)?)?;
     Ok(sum)
@@ -112,9 +115,10 @@ fn gens(p: Prime, shift: u32, vectors: List<Poly>) -> Result<Gens, Fail>
 }
 
 // Vectors of one component.
-fn plain_gens(alloc: Global, p: Prime, rows: Rows) -> Result<Gens, Fail>
+fn plain_gens(alloc: Global, rows: Rows) -> Result<Gens, Fail>
     ensures { IfOk result (λ gens. AreGens gens) }
 {
+    let p = Prime::new(7).ok_or("7 is in the table")?;
     let mut vectors = List::new(alloc);
     for row in rows {
         vectors.push(polynomial(alloc, p, 0, row)?)?;
@@ -148,59 +152,86 @@ fn has_rows(f: &Poly, component: u32, rows: &[Row]) -> bool {
         .eq(rows.iter().copied())
 }
 
+// Whether the vector is this one.
+fn has_parts(f: &Poly, parts: Parts) -> bool {
+    let (first, second) = parts;
+    has_rows(f, 0, first) && has_rows(f, 1, second)
+}
+
+// Whether this vector has this number.
+fn is_at(fs: &[Poly], place: usize, parts: Parts) -> bool {
+    match fs.get(place) {
+        Some(f) => has_parts(f, parts),
+        None => false,
+    }
+}
+
 // Whether the vectors are exactly these, in one component.
 fn are_rows(fs: &[Poly], rows: Rows) -> bool {
-    if fs.len() != rows.len() {
-        return false;
-    }
-    for i in 0..fs.len() {
-        if !has_rows(&fs[i], 0, rows[i]) || !has_rows(&fs[i], 1, &[]) {
+    for i in 0..rows.len() {
+        if !is_at(fs, i, (rows[i], &[])) {
             return false;
         }
     }
-    true
+    fs.len() == rows.len()
 }
 
-// What a call answers.
-enum Answer {
-    Deep,
-    Basis(GradedBasis),
-}
-
-fn answered(alloc: Global, gens: &Gens, cap: u32) -> Result<Answer, Fail>
-    requires { AreGens gens.now }
+// The basis, or nothing where the module is deep.
+fn answered(alloc: Global, gens: &Gens, cap: u32) -> Result<Option<GradedBasis>, Fail>
+    requires gens { AreGens gens.now }
+    requires some { 1 ≤ cap }
+    requires within { cap ≤ 1000 }
 {
-    if cap < 1 || cap > 1000 {
-        return Err("no cap".into());
-    }
     match graded_basis(alloc, gens, cap) {
-        Ok(basis) => Ok(Answer::Basis(basis)),
-        Err(BasisStop::Deep) => Ok(Answer::Deep),
+        Ok(basis) => Ok(Some(basis)),
+        Err(BasisStop::Deep) => Ok(None),
         Err(BasisStop::Memory) => Err("no memory".into()),
     }
 }
 
+// The basis of vectors of one component, or nothing where they are deep.
+fn plain_basis(alloc: Global, rows: Rows, cap: u32) -> Result<Option<GradedBasis>, Fail>
+    requires some { 1 ≤ cap }
+    requires within { cap ≤ 1000 }
+{
+    let gens = plain_gens(alloc, rows)?;
+    answered(alloc, &gens, cap)
+}
+
 // Whether the basis and the basis with h = 1 are the wanted ones.
-fn has_basis(alloc: Global, rows: Rows, cap: u32, basis: Rows, affine: Rows) -> Result<bool, Fail> {
-    let p = Prime::new(7).ok_or("7 is in the table")?;
-    match answered(alloc, &plain_gens(alloc, p, rows)?, cap)? {
-        Answer::Deep => Ok(false),
-        Answer::Basis(found) => {
-            if !are_plain(found.vectors()) {
-                return Ok(false);
-            }
-            let ds = found.dehomogenised()?;
-            Ok(are_rows(found.vectors(), basis) && are_rows(ds.as_slice(), affine))
-        }
+fn are_bases(found: &GradedBasis, basis: Rows, affine: Rows) -> Result<bool, Fail> {
+    if !are_plain(found.vectors()) {
+        return Ok(false);
+    }
+    let ds = found.dehomogenised()?;
+    Ok(are_rows(found.vectors(), basis) && are_rows(ds.as_slice(), affine))
+}
+
+// Whether these are the bases of the polynomials under the cap.
+fn has_bases(alloc: Global, rows: Rows, cap: u32, basis: Rows, affine: Rows) -> Result<bool, Fail>
+    requires some { 1 ≤ cap }
+    requires within { cap ≤ 1000 }
+{
+    match plain_basis(alloc, rows, cap)? {
+        Some(found) => are_bases(&found, basis, affine),
+        None => Ok(false),
     }
 }
 
 #[test]
-fn bases_of_polynomials(rt: HostRuntime) -> Result<(), Fail> {
+fn bases_of_no_and_of_one_polynomial(rt: HostRuntime) -> Result<(), Fail> {
     let none: Rows = &[];
     let zeros: Rows = &[&[], &[]];
     let one: Rows = &[&[(3, 2, 1, 0)]];
     let monic: Rows = &[&[(1, 2, 1, 0)]];
+    assert!(rt; has_bases(rt.alloc(), none, 1, none, none)?);
+    assert!(rt; has_bases(rt.alloc(), zeros, 1, none, none)?);
+    assert!(rt; has_bases(rt.alloc(), one, 3, monic, monic)?);
+    Ok(())
+}
+
+#[test]
+fn bases_of_polynomials(rt: HostRuntime) -> Result<(), Fail> {
     let cubics: Rows = &[&[(1, 3, 0, 0), (6, 0, 1, 2)], &[(1, 0, 3, 0), (6, 1, 0, 2)]];
     let rising: Rows = &[&[(1, 0, 3, 0), (6, 1, 0, 2)], &[(1, 3, 0, 0), (6, 0, 1, 2)]];
     let affine: Rows = &[&[(1, 0, 3, 0), (6, 1, 0, 0)], &[(1, 3, 0, 0), (6, 0, 1, 0)]];
@@ -216,47 +247,43 @@ fn bases_of_polynomials(rt: HostRuntime) -> Result<(), Fail> {
     ];
     // y^2 is a multiple of y then, and x y in the tail too.
     let two: Rows = &[&[(1, 0, 1, 0)], &[(1, 2, 0, 0)]];
-    let table = [
-        (none, 1, none, none),
-        (zeros, 1, none, none),
-        (one, 3, monic, monic),
-        (cubics, 6, rising, affine),
-        (mixed, 4, sorted, two),
-    ];
-    for (i, (rows, cap, basis, affine)) in table.iter().enumerate() {
-        assert!(rt;
-            has_basis(rt.alloc(), rows, *cap, basis, affine)?,
-            "row {i}"
-        );
-    }
+    assert!(rt; has_bases(rt.alloc(), cubics, 6, rising, affine)?);
+    assert!(rt; has_bases(rt.alloc(), mixed, 4, sorted, two)?);
     Ok(())
 }
 
-fn is_deep(alloc: Global, rows: Rows, cap: u32) -> Result<bool, Fail> {
-    let p = Prime::new(7).ok_or("7 is in the table")?;
-    match answered(alloc, &plain_gens(alloc, p, rows)?, cap)? {
-        Answer::Deep => Ok(true),
-        Answer::Basis(_) => Ok(false),
-    }
+// Whether the polynomials are deep under the cap.
+fn are_deep(alloc: Global, rows: Rows, cap: u32) -> Result<bool, Fail>
+    requires some { 1 ≤ cap }
+    requires within { cap ≤ 1000 }
+{
+    Ok(plain_basis(alloc, rows, cap)?.is_none())
 }
 
 #[test]
 fn deep_modules(rt: HostRuntime) -> Result<(), Fail> {
     let cubics: Rows = &[&[(1, 3, 0, 0), (6, 0, 1, 2)], &[(1, 0, 3, 0), (6, 1, 0, 2)]];
     let one: Rows = &[&[(3, 2, 1, 0)]];
-    for (i, (rows, cap, deep)) in [
-        (cubics, 4, true),
-        (cubics, 5, true),
-        (cubics, 6, false),
-        (one, 2, true),
-        (one, 3, false),
-    ]
-    .iter()
-    .enumerate()
-    {
-        assert!(rt; is_deep(rt.alloc(), rows, *cap)? == *deep, "row {i}");
-    }
+    assert!(rt; are_deep(rt.alloc(), cubics, 4)?);
+    assert!(rt; are_deep(rt.alloc(), cubics, 5)?);
+    assert!(rt; !are_deep(rt.alloc(), cubics, 6)?);
+    assert!(rt; are_deep(rt.alloc(), one, 2)?);
+    assert!(rt; !are_deep(rt.alloc(), one, 3)?);
     Ok(())
+}
+
+// The basis of the module of (x^2, 1) and (y^2 h - x^3, 0), whose second unit vector has degree 2, or nothing where it
+// is deep.
+fn basis_of_two(alloc: Global, cap: u32) -> Result<Option<GradedBasis>, Fail>
+    requires some { 1 ≤ cap }
+    requires within { cap ≤ 1000 }
+{
+    let p = Prime::new(7).ok_or("7 is in the table")?;
+    let mut vectors = List::new(alloc);
+    vectors.push(vector(alloc, p, (&[(1, 2, 0, 0)], &[(1, 0, 0, 0)]))?)?;
+    vectors.push(vector(alloc, p, (&[(1, 0, 2, 1), (6, 3, 0, 0)], &[]))?)?;
+    let module = gens(p, 2, vectors)?;
+    answered(alloc, &module, cap)
 }
 
 // The normal form, where the vector is homogeneous.
@@ -269,42 +296,41 @@ fn form(basis: &GradedBasis, v: &Poly) -> Result<Poly, Fail>
     Ok(basis.normal_form(v)?)
 }
 
-// The module of (x^2, 1) and (y^2 h - x^3, 0), whose second unit vector has degree 2.
+// Whether this is the normal form of the vector.
+fn has_form(alloc: Global, basis: &GradedBasis, v: Parts, wanted: Parts) -> Result<bool, Fail> {
+    if basis.variables() != 6 {
+        return Err("six variables".into());
+    }
+    let v = vector(alloc, basis.prime(), v)?;
+    let found = form(basis, &v)?;
+    Ok(has_parts(&found, wanted))
+}
+
+// Whether these three vectors are the basis.
+fn are_three(fs: &[Poly], wanted: [Parts; 3]) -> bool {
+    fs.len() == 3 && is_at(fs, 0, wanted[0]) && is_at(fs, 1, wanted[1]) && is_at(fs, 2, wanted[2])
+}
+
 #[test]
 fn a_module_of_two_components(rt: HostRuntime) -> Result<(), Fail> {
-    let alloc = rt.alloc();
-    let p = Prime::new(7).ok_or("7 is in the table")?;
-    let mut vectors = List::new(alloc);
-    vectors.push(vector(alloc, p, &[(1, 2, 0, 0)], &[(1, 0, 0, 0)])?)?;
-    vectors.push(vector(alloc, p, &[(1, 0, 2, 1), (6, 3, 0, 0)], &[])?)?;
-    let module = gens(p, 2, vectors)?;
-    match answered(alloc, &module, 4)? {
-        Answer::Deep => {}
-        Answer::Basis(_) => return Err("deep".into()),
-    }
-    match answered(alloc, &module, 5)? {
-        Answer::Deep => Err("not deep".into()),
-        Answer::Basis(basis) => {
-            let fs = basis.vectors();
-            assert!(rt; fs.len() == 3);
-            assert!(rt;
-                has_rows(&fs[0], 0, &[]) && has_rows(&fs[0], 1, &[(1, 3, 0, 0), (6, 0, 2, 1)])
-            );
-            assert!(rt;
-                has_rows(&fs[1], 0, &[(1, 2, 0, 0)]) && has_rows(&fs[1], 1, &[(1, 0, 0, 0)])
-            );
-            assert!(rt;
-                has_rows(&fs[2], 0, &[(1, 0, 2, 1)]) && has_rows(&fs[2], 1, &[(1, 1, 0, 0)])
-            );
-            if basis.variables() != 6 {
-                return Err("six variables".into());
-            }
-            // x (x^2, 1) is a member, and (x^2, 0) differs by one from (0, -1)
-            let member = form(&basis, &vector(alloc, p, &[(1, 3, 0, 0)], &[(1, 1, 0, 0)])?)?;
-            assert!(rt; member.terms().len() == 0);
-            let other = form(&basis, &vector(alloc, p, &[(1, 2, 0, 0)], &[])?)?;
-            assert!(rt; has_rows(&other, 0, &[]) && has_rows(&other, 1, &[(6, 0, 0, 0)]));
-            Ok(())
-        }
-    }
+    assert!(rt; basis_of_two(rt.alloc(), 4)?.is_none());
+    let basis = basis_of_two(rt.alloc(), 5)?.ok_or("deep")?;
+    let wanted: [Parts; 3] = [
+        (&[], &[(1, 3, 0, 0), (6, 0, 2, 1)]),
+        (&[(1, 2, 0, 0)], &[(1, 0, 0, 0)]),
+        (&[(1, 0, 2, 1)], &[(1, 1, 0, 0)]),
+    ];
+    assert!(rt; are_three(basis.vectors(), wanted));
+    Ok(())
+}
+
+// x (x^2, 1) is a member, and (x^2, 0) differs by one from (0, -1).
+#[test]
+fn normal_forms_of_two_components(rt: HostRuntime) -> Result<(), Fail> {
+    let basis = basis_of_two(rt.alloc(), 5)?.ok_or("deep")?;
+    let member: Parts = (&[(1, 3, 0, 0)], &[(1, 1, 0, 0)]);
+    assert!(rt; has_form(rt.alloc(), &basis, member, (&[], &[]))?);
+    let other: Parts = (&[(1, 2, 0, 0)], &[]);
+    assert!(rt; has_form(rt.alloc(), &basis, other, (&[], &[(6, 0, 0, 0)]))?);
+    Ok(())
 }

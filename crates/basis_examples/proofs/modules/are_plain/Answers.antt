@@ -4,7 +4,7 @@ use Rattle.std.proofs.lemmas.List.{take_all}
 use Rattle.std.proofs.lemmas.List.Elements.{All-map}
 use Rattle.polys.specs.Poly.{Polynomial, IsPlain}
 use Rattle.polys.specs.Terms.{EachMono}
-use Rattle.module_basis.proofs.basis.tests.are_plain.Goals as goal
+use Rattle.basis_examples.proofs.modules.are_plain.Goals as goal
 
 pub returns : goal.returns
 returns c sure =
