@@ -21,11 +21,7 @@ use row_space::Space;
 use std::alloc::Global;
 
 // The first entries of each row.
-fn fronts(
-    alloc: Global,
-    width: usize,
-    rows: &[List<u32>],
-) -> Result<List<List<u32>>, NoMemory>
+fn fronts(alloc: Global, width: usize, rows: &[List<u32>]) -> Result<List<List<u32>>, NoMemory>
     requires { All (λ row. width ≤ length row) rows.now }
     ensures { IfOk result (λ made. made ≡ map (take width) rows.now) }
 {
@@ -70,6 +66,7 @@ fn join_images(
     requires elements { All (IsRow prime (length rows.now)) elements.now }
     ensures { OnOk result (Joins space.old (map (λ x. product prime width x rows.now) elements.now) space.new) }
 {
+    let _known = prime.get();
     let made = images(alloc, prime, width, rows, elements)?;
     space.add_rows(made.as_slice())?;
     Ok(())
@@ -105,6 +102,13 @@ pub fn point_radical(digits: &Digits, over: &Over, point: &Point) -> Result<Spac
     let nilpotent = radical(&algebra)?;
     let width = basis.len() * (over.power() as usize + 1);
     let list = fronts(alloc, width, rows.as_slice())?;
-    join_images(alloc, prime, width, &mut space, list.as_slice(), nilpotent.rows())?;
+    join_images(
+        alloc,
+        prime,
+        width,
+        &mut space,
+        list.as_slice(),
+        nilpotent.rows(),
+    )?;
     Ok(space)
 }
