@@ -17,7 +17,7 @@ use Rattle.row_space.specs.Subspace.{Subspace, FitsIn, IsIn}
 use Rattle.digit_laws.specs.Digits.{AreCornersOf, value, AreDigits, HasDigitsIn, IsOfDigits}
 use Rattle.digit_laws.proofs.DigitLaws.{digit_law, value_poly}
 use Rattle.endo_ring.specs.Taken.{AreProducts, IsAfterZeros, IsTaken, IsTakenSum}
-use Rattle.endo_ring.proofs.Values.{combined_digits, products_poly, pushed, value_combined}
+use Rattle.over_module.proofs.Values.{combined_digits, products_poly, pushed, value_combined}
 use Rattle.endo_ring.proofs.Zeros.{in_after, out_after}
 
 -- a space by its prime and width

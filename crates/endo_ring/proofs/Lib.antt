@@ -1,8 +1,6 @@
 -- for this crate alone
 mod Sums
 mod Zeros
-mod Values
-mod Facts
 mod Generators
 mod Taking
 -- for the tests

@@ -39,7 +39,7 @@ use Rattle.digit_laws.proofs.Blocks.{zeros_row}
 use Rattle.over_laws.specs.Over.{InRows, TakesIntoItself}
 use Rattle.over_laws.specs.Endo.{TakesGenerators, GeneratorsDecideEndomorphisms}
 use Rattle.endo_ring.specs.Taken.{IsTaken}
-use Rattle.endo_ring.proofs.Values.{deep}
+use Rattle.over_module.proofs.Values.{deep}
 
 module _ (C : CommRing) where
   open C use {ops, carrier, ◌≈◌, ◌⊕◌, ◌⊗◌, neg, 𝟘, 𝟙}

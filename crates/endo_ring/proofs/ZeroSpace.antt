@@ -1,9 +1,9 @@
 -- The zero space of rows is an ideal, that of the multiples of d^T.
-use Rattle.std.proofs.Common.{◌≡◌, ℕ, ◌*◌, ◌%◌, ◌<◌, List, [], ◌∷◌, length, replicate, get_or, refl, sym, ap, ◌∙◌, subst, arith}
+use Rattle.std.proofs.Common.{◌≡◌, ℕ, ◌*◌, ◌%◌, ◌<◌, List, [], ◌∷◌, length, replicate, refl, sym, ap, ◌∙◌, subst, arith}
 use Rattle.std.proofs.lemmas.List.{append-nil, length-replicate, get_or-replicate}
 use Rattle.std.proofs.Math.Nat.{zero-mod}
 use Rattle.comm_ring.specs.Rows.{rows}
-use Rattle.comm_ring.specs.Modules.{combine, combination, InSpan}
+use Rattle.comm_ring.specs.Modules.{combine, InSpan}
 use Rattle.comm_ring.proofs.Rows.{row-entry, equal_rows}
 use Rattle.monomials.specs.Mono.{Monomial, variable}
 use Rattle.polys.specs.declared.term.Term.{Term}
@@ -22,7 +22,7 @@ use Rattle.row_space.proofs.Members.{combination-entry}
 use Rattle.row_space.proofs.Weights.{weighted-none}
 use Rattle.standard_monomials.specs.Standard.{polynomial_of}
 use Rattle.standard_monomials.proofs.Powers.{affine_power}
-use Rattle.digit_laws.specs.Digits.{AreCornersOf, AreDigits, HasDigitsIn, IsIdealSpace, places, value}
+use Rattle.digit_laws.specs.Digits.{AreCornersOf, HasDigitsIn, IsIdealSpace, places, value}
 use Rattle.digit_laws.proofs.DigitLaws.{place_polys}
 use Rattle.digit_laws.proofs.Blocks.{zeros_combine, zeros_row}
 use Rattle.digit_laws.proofs.Spaces.{affine_poly}

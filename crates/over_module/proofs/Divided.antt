@@ -1,28 +1,27 @@
 -- The product of two numerators over d^k of a ring of fractions, divided by d^k.
-use Rattle.std.proofs.Common.{◌≡◌, ℕ, suc, ◌+◌, ◌-◌, ◌*◌, ◌<◌, ◌≤◌, List, [], ◌∷◌, ◌++◌, length, take, drop, replicate, All, refl, sym, ap, ◌∙◌, subst, arith}
+use Rattle.std.proofs.Common.{◌≡◌, ℕ, suc, ◌+◌, ◌-◌, ◌*◌, ◌≤◌, List, ◌++◌, length, take, drop, replicate, refl, sym, ap, ◌∙◌, subst, arith}
 use Rattle.std.proofs.lemmas.List.{length-replicate}
 use Rattle.std.proofs.Math.Seq.{drop-append_seam}
 use Rattle.polys.specs.declared.term.Term.{Term}
 use Rattle.polys.specs.Terms.{IsPoly, sub, mul}
-use Rattle.polys.specs.Ideal.{InIdeal}
 use Rattle.polys.specs.Curve.{CurveData, data_of}
 use Rattle.polys.proofs.Affine.{poly_mul, positive}
-use Rattle.ideal_laws.proofs.Ideals.{in_larger, in_more}
+use Rattle.ideal_laws.proofs.Ideals.{in_more}
 use Rattle.row_space.specs.Subspace.{Subspace}
-use Rattle.curve_model.specs.Fraction.{Fraction, IsFraction, AreEqual, denominator_power, over, product_of}
+use Rattle.curve_model.specs.Fraction.{AreEqual, denominator_power, over, product_of}
 use Rattle.curve_model.specs.OneExponent.{InPower}
 use Rattle.curve_model.specs.Rings.{IsFractionRing}
 use Rattle.curve_laws.proofs.Base.{high}
 use Rattle.curve_laws.proofs.StatedLaws.{product_poly}
 use Rattle.chain_laws.proofs.OneExponent.{eq_trans, one_equal_up}
 use Rattle.digit_laws.specs.Digits.{AreDigits}
-use Rattle.digit_laws.specs.Laws.{DigitsAreCoordinates, BlocksAreDepths}
+use Rattle.digit_laws.specs.Laws.{DigitsAreCoordinates}
 use Rattle.digit_laws.proofs.DigitLaws.{digit_law}
 use Rattle.digit_laws.proofs.Blocks.{block_law}
 use Rattle.digit_space.specs.Model.{DigitData, IsDigitSpace, IsDigitsOf}
-use Rattle.over_laws.specs.Over.{OverData, InOver, HasRows}
+use Rattle.over_laws.specs.Over.{InOver, HasRows}
 use Rattle.quotient_laws.specs.QuotientRows.{IsMemberRow}
-use Rattle.quotient_laws.proofs.QuotientRows.{HasMemberRow, row_of}
+use Rattle.quotient_laws.proofs.QuotientRows.{row_of}
 use Rattle.over_module.specs.Raising.{behind_zeros}
 use Rattle.over_module.proofs.DepthRows.{raise, raise_poly, raise_equal, raise_digits}
 use Rattle.over_module.proofs.Facts.{finite}

@@ -1,5 +1,5 @@
 -- Rows whose first entries are in a space.
-use Rattle.std.proofs.Common.{◌≡◌, ◌↔◌, ℕ, suc, ◌+◌, ◌-◌, ◌*◌, ◌%◌, ◌<◌, ◌≤◌, List, [], ◌++◌, length, take, replicate, get_or, All, min, refl, sym, ap, ap₂, ◌∙◌, subst, arith, ⊎_elim, mod-eq_of_lt}
+use Rattle.std.proofs.Common.{◌≡◌, ℕ, ◌+◌, ◌-◌, ◌*◌, ◌%◌, ◌<◌, ◌≤◌, List, [], ◌++◌, length, take, replicate, get_or, All, min, sym, ap, ap₂, ◌∙◌, subst, arith, ⊎_elim}
 use Rattle.std.proofs.lemmas.Bool.{cases_lt}
 use Rattle.std.proofs.lemmas.List.{length-append, length-replicate, get_or-take, get_or-replicate, get_or_append_left, get_or-append_right, length-take}
 use Rattle.std.proofs.Math.ListN.{get_or-eq_default}
@@ -17,7 +17,7 @@ use Rattle.finite_algebra.specs.Elements.{total, unit_row}
 use Rattle.finite_algebra.proofs.Totals.{IsLinear, linear-origin, total_in}
 use Rattle.std.proofs.Math.Seq.{take-append_seam}
 use Rattle.finite_algebra.proofs.Classes.{unit_fits}
-use Rattle.finite_algebra.proofs.Units.{expand, unit-own, unit-other, length-unit_row}
+use Rattle.finite_algebra.proofs.Units.{expand, unit-other}
 use Rattle.over_module.specs.Quotients.{AreGenerators}
 
 module _ (p : ℕ) (positive : 0 < p) (m w : ℕ) (short : m ≤ w) where
@@ -209,7 +209,7 @@ module _ (p : ℕ) (positive : 0 < p) (m w : ℕ) (short : m ≤ w) where
       filled_fits : (b : List ℕ) → IsRow p m b → IsRow p w (b ++ replicate (w - m) 0)
       filled_fits b h = (
         (let e : length (b ++ replicate (w - m) 0) ≡ length b + length {A = ℕ} (replicate (w - m) 0) = length-append b (replicate (w - m) 0) in
-        let f : length {A = ℕ} (replicate (w - m) 0) ≡ w - m = length-replicate (w - m) 0 in
-        let g : length b ≡ m = h.0 in omega arith),
+            let f : length {A = ℕ} (replicate (w - m) 0) ≡ w - m = length-replicate (w - m) 0 in
+            let g : length b ≡ m = h.0 in omega arith),
         All-append (λ x. x < p) b (replicate (w - m) 0) h.1 (All-replicate (λ x. x < p) (w - m) 0 positive),
       )

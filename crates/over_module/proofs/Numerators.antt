@@ -1,25 +1,24 @@
 -- The numerators of a module over d^k modulo d^(k+1), as rows of digits, and their products with a point.
-use Rattle.std.proofs.Common.{◌≡◌, ◌↔◌, ℕ, suc, ◌+◌, ◌-◌, ◌*◌, ◌<◌, ◌≤◌, List, [], ◌∷◌, ◌++◌, map, length, take, replicate, get_or, All, refl, sym, ap, ◌∙◌, subst, arith, mul-add}
+use Rattle.std.proofs.Common.{◌≡◌, ℕ, suc, ◌+◌, ◌-◌, ◌*◌, ◌<◌, ◌≤◌, List, [], ◌++◌, map, length, take, replicate, get_or, All, sym, ap, ◌∙◌, subst, arith, mul-add}
 use Rattle.std.proofs.lemmas.List.{ext_get_or, get_or-map, length-map}
 use Rattle.std.proofs.Math.Seq.{take-append_seam}
-use Rattle.std.proofs.lemmas.List.Elements.{All-from_get_or, All-weaker}
+use Rattle.std.proofs.lemmas.List.Elements.{All-from_get_or}
 use Rattle.comm_ring.specs.Rows.{rows as rows_of}
 use Rattle.comm_ring.specs.Modules.{InSpan}
 use Rattle.comm_ring.proofs.Modules as Modules
 use Rattle.comm_ring.proofs.Residues.{residues}
 use Rattle.comm_ring.proofs.Rows.{row_module}
 use Rattle.prime_field.proofs.Table.{positive_of_prime}
-use Rattle.monomials.specs.Mono.{Monomial}
 use Rattle.polys.specs.declared.term.Term.{Term}
 use Rattle.polys.specs.declared.curve.Curve.{Curve}
 use Rattle.polys.specs.Curve.{CurveData, data_of}
 use Rattle.curve_model.specs.Laws.{ArePolys}
 use Rattle.row_space.specs.Echelon.{IsRow}
 use Rattle.row_space.specs.Subspace.{Subspace, FitsIn, IsIn}
-use Rattle.digit_laws.specs.Digits.{AreCornersOf, AreDigits, value}
+use Rattle.digit_laws.specs.Digits.{AreDigits, value}
 use Rattle.digit_laws.proofs.Corners.{corners_law}
-use Rattle.digit_laws.proofs.DigitLaws.{digit_law, row_digits}
-use Rattle.digit_space.specs.Model.{DigitData, IsDigitSpace, IsDigitRow, value_of, width}
+use Rattle.digit_laws.proofs.DigitLaws.{row_digits}
+use Rattle.digit_space.specs.Model.{DigitData, IsDigitSpace, IsDigitRow, value_of}
 use Rattle.curve_model.specs.declared.point.Point.{Point}
 use Rattle.curve_model.specs.Point.{IsPointOf, basis_of}
 use Rattle.curve_model.specs.Rings.{IsFractionRing}
@@ -27,7 +26,7 @@ use Rattle.over_laws.specs.Over.{OverData, InOver, HasRows}
 use Rattle.quotient_laws.specs.OverQuotients.{HoldsProducts}
 use Rattle.quotient_laws.specs.ProductRows.{HoldsCurve}
 use Rattle.quotient_laws.specs.QuotientRows.{IsMemberRow, AreMemberRows}
-use Rattle.over_module.specs.Quotients.{HasFronts, HoldsNumerators}
+use Rattle.over_module.specs.Quotients.{HoldsNumerators}
 use Rattle.over_module.proofs.Facts.{finite, filled_row, filled_value}
 use Rattle.over_module.proofs.Values.{values_poly}
 

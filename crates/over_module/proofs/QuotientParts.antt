@@ -1,21 +1,17 @@
 -- What is left of a ring of fractions modulo its products, with the coordinates of products, is an algebra.
 use Rattle.std.proofs.Math.Nat.{div-add-mod, mod-lt, div-lt_iff_lt-mul}
-use Rattle.std.proofs.Common.{◌≡◌, ◌↔◌, ℕ, zero, suc, ◌+◌, ◌-◌, ◌*◌, ◌/◌, ◌%◌, ◌<◌, ◌≤◌, List, [], ◌∷◌, ◌++◌, map, length, take, replicate, get_or, All, refl, sym, ap, ◌∙◌, subst, arith}
-use Rattle.std.proofs.lemmas.List.{get_or-map, length-map, get_or_default}
+use Rattle.std.proofs.Common.{◌≡◌, ℕ, zero, suc, ◌+◌, ◌-◌, ◌*◌, ◌/◌, ◌%◌, ◌<◌, ◌≤◌, List, [], ◌++◌, map, length, take, replicate, get_or, All, refl, sym, ap, ◌∙◌, subst, arith}
+use Rattle.std.proofs.lemmas.List.{get_or-map, length-map}
 use Rattle.std.proofs.lemmas.List.Elements.{All-from_get_or}
-use Rattle.comm_ring.specs.Modules.{InSpan, combination}
+use Rattle.comm_ring.specs.Modules.{combination}
 use Rattle.comm_ring.specs.Rows.{rows as rows_of}
-use Rattle.comm_ring.proofs.Modules as Modules
-use Rattle.comm_ring.proofs.Residues.{residues}
-use Rattle.comm_ring.proofs.Rows.{row_module}
-use Rattle.monomials.specs.Mono.{Monomial}
 use Rattle.polys.specs.declared.term.Term.{Term}
 use Rattle.polys.specs.Terms.{IsPoly, one, mul}
 use Rattle.polys.specs.declared.curve.Curve.{Curve}
 use Rattle.polys.specs.Curve.{CurveData, data_of}
 use Rattle.row_space.specs.Echelon.{IsRow}
-use Rattle.row_space.specs.Subspace.{Subspace, FitsIn, IsIn, DifferIn}
-use Rattle.curve_model.specs.Fraction.{Fraction, IsFraction, AreEqual, denominator_power, over, product_of}
+use Rattle.row_space.specs.Subspace.{Subspace, IsIn, DifferIn}
+use Rattle.curve_model.specs.Fraction.{AreEqual, denominator_power, over, product_of}
 use Rattle.curve_model.specs.Rings.{IsFractionRing}
 use Rattle.curve_laws.proofs.StatedLaws.{power_poly}
 use Rattle.chain_laws.proofs.ChainLaws.{one_poly}
@@ -32,7 +28,7 @@ use Rattle.quotient_laws.specs.Quotients.{IsQuotientAt}
 use Rattle.quotient_laws.proofs.OverQuotients.{product_inside}
 use Rattle.quotient_laws.proofs.QuotientRows.{member_over, member_of_digits, one_over}
 use Rattle.over_module.specs.Complements.{IsComplement, IsInWhole, AreCoordinates}
-use Rattle.over_module.specs.Quotients.{HoldsNumerators, IsDividedProduct, IsProductRow, IsProductTable, HasCoordinates}
+use Rattle.over_module.specs.Quotients.{HoldsNumerators, IsDividedProduct, IsProductTable, HasCoordinates}
 use Rattle.over_module.proofs.Divided.{IsQuotientRow, divided_row}
 use Rattle.over_module.proofs.Facts.{finite}
 use Rattle.over_module.proofs.Numerators as Numerators

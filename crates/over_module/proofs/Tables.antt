@@ -52,4 +52,3 @@ module _ (g : DigitData) (k : ℕ) (products rest : Subspace) (list : List (List
 
       before : (a i n j : ℕ) → a < i → j < n → a * n + j < i * n
       before a i n j h l = let up : (a + 1) * n ≤ i * n = mul-le-mul_right n (let x : a + 1 ≤ i = omega arith in x) in omega arith
-

@@ -1,17 +1,15 @@
 -- The numerators of a ring of fractions over d^k modulo d^(k+1), those of its products with a point, and what is left of the
 -- former modulo the latter.
 use Rattle.std.specs.Prelude.{◌≡◌, ◌↔◌, ℕ, suc, ◌+◌, ◌-◌, ◌*◌, ◌<◌, List, [], ◌++◌, length, take, drop, replicate, slice_index_or, All, Contains}
-use Rattle.comm_ring.specs.Rows.{rows}
-use Rattle.comm_ring.specs.Modules.{combination}
 use Rattle.monomials.specs.Mono.{Monomial}
 use Rattle.polys.specs.declared.term.Term.{Term}
 use Rattle.polys.specs.Terms.{mul}
 use Rattle.polys.specs.Curve.{CurveData, data_of}
 use Rattle.row_space.specs.Echelon.{IsRow}
-use Rattle.row_space.specs.Subspace.{Subspace, FitsIn, IsIn, DifferIn, IsZeroAtPivots, IsReduced}
+use Rattle.row_space.specs.Subspace.{Subspace, IsIn, IsReduced}
 use Rattle.finite_algebra.specs.Elements.{unit_row}
 use Rattle.digit_laws.specs.Digits.{AreDigits}
-use Rattle.digit_space.specs.Model.{DigitData, IsDigitsOf, value_of, width}
+use Rattle.digit_space.specs.Model.{DigitData, IsDigitsOf, value_of}
 use Rattle.over_laws.specs.Over.{OverData}
 use Rattle.quotient_laws.specs.ProductRows.{IsProductRow as IsRowOfProduct}
 use Rattle.over_module.specs.Complements.{AreCoordinates, IsInWhole}

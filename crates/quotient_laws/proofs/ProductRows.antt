@@ -209,8 +209,14 @@ module _ (A : CurveData) (c : IsFinite A) (ms : List Monomial) (corners : AreCor
         (in_power_has A c ms corners (suc k) basis (mul p q rest) qr (in_mul p A.variables G q rest positive_prime hq near)))
 
     out : (f : Fraction) → IsFraction A f → IsProduct A P B f → InRows A k (suc k) products f
-    out _ hf (no_product f h' e) = record { corners = ms; known = corners; numerator = []; poly = poly_none A.prime A.variables; inside = none_has A c ms corners (suc k) basis;
-      equal = eq_trans A c f (over [] 0) (over [] k) hf (poly_none A.prime A.variables) (poly_none A.prime A.variables) e (in_none A.prime A.variables A.ideal) }
+    out _ hf (no_product f h' e) = record {
+      corners = ms;
+      known = corners;
+      numerator = [];
+      poly = poly_none A.prime A.variables;
+      inside = none_has A c ms corners (suc k) basis;
+      equal = eq_trans A c f (over [] 0) (over [] k) hf (poly_none A.prime A.variables) (poly_none A.prime A.variables) e (in_none A.prime A.variables A.ideal);
+    }
     out _ hf (one_more f b y q h' hb hy cq bb t e) =
         let p = A.prime in
         let x = s.spans b hb bb in

@@ -1,5 +1,5 @@
 -- The radical of a ring of fractions at a point is closed under products with polynomials.
-use Rattle.std.proofs.Common.{◌≡◌, ◌↔◌, ℕ, List, subst}
+use Rattle.std.proofs.Common.{◌↔◌, ℕ, List, subst}
 use Rattle.comm_ring.specs.Ring.{CommRing, pow}
 use Rattle.comm_ring.proofs.Derived as Derived
 use Rattle.fraction_laws.proofs.Basic.{pow_in}

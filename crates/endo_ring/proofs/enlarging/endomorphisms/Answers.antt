@@ -7,7 +7,7 @@ use Rattle.row_space.specs.Subspace.{IsIn}
 use Rattle.digit_laws.specs.Digits.{IsIdealSpace}
 use Rattle.over_laws.specs.Over.{HasRows, InOver, InRows, OverData, TakesIntoItself}
 use Rattle.endo_ring.specs.Taken.{IsTaken}
-use Rattle.endo_ring.proofs.Facts.{finite}
+use Rattle.over_module.proofs.Facts.{finite}
 use Rattle.endo_ring.proofs.Sums.{reduced_independent}
 use Rattle.endo_ring.proofs.Generators.{all_terms}
 use Rattle.endo_ring.proofs.Taking.{result}

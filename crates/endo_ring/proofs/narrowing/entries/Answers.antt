@@ -1,5 +1,5 @@
 use Rattle.std.proofs.Common.{◌*◌, length, sym, subst, arith, Fits, w64}
-use Rattle.endo_ring.proofs.Facts.{small}
+use Rattle.over_module.proofs.Facts.{small}
 use Rattle.endo_ring.proofs.narrowing.entries.Goals as goal
 
 pub overflow_mul-result : goal.overflow_mul-result

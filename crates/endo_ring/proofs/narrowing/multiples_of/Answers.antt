@@ -1,6 +1,6 @@
 use Rattle.std.proofs.Common.{[], get_or, sym, subst}
 use Rattle.digit_space.specs.Model.{IsDigitsOf}
-use Rattle.endo_ring.proofs.Facts.{generator_row}
+use Rattle.over_module.proofs.Facts.{generator_row}
 use Rattle.endo_ring.proofs.narrowing.multiples_of.Goals as goal
 
 pub returns-clause-rows : goal.returns-clause-rows

@@ -2,7 +2,7 @@ use Rattle.std.proofs.Common.{◌↔◌, ◌*◌, length, sym, subst}
 use Rattle.polys.specs.Curve.{data_of}
 use Rattle.row_space.specs.Subspace.{IsIn}
 use Rattle.endo_ring.specs.Taken.{AreProducts, IsTakenSum}
-use Rattle.endo_ring.proofs.Facts.{finite}
+use Rattle.over_module.proofs.Facts.{finite}
 use Rattle.endo_ring.proofs.Generators.{narrowed_members, products_fit}
 use Rattle.endo_ring.proofs.narrowing.narrowed.Goals as goal
 

@@ -6,7 +6,7 @@ use Rattle.digit_laws.proofs.DigitLaws.{value_poly}
 use Rattle.polys.proofs.Affine.{poly_mul, positive}
 use Rattle.curve_laws.proofs.Base.{high}
 use Rattle.digit_space.specs.Model.{IsDigitRow, IsDigitsOf, value_of}
-use Rattle.endo_ring.proofs.Facts.{finite, filled_row, filled_value, front_digits}
+use Rattle.over_module.proofs.Facts.{finite, filled_row, filled_value, front_digits}
 use Rattle.endo_ring.proofs.narrowing.product_row.Goals as goal
 use Rattle.endo_ring.proofs.narrowing.product_row.Goals.{After-entries-zeros}
 

@@ -4,7 +4,7 @@ use Rattle.std.proofs.Math.Seq.{take-length}
 use Rattle.polys.specs.Curve.{data_of}
 use Rattle.row_space.specs.Subspace.{IsIn}
 use Rattle.endo_ring.specs.Taken.{IsAfterZeros, IsTaken}
-use Rattle.endo_ring.proofs.Facts.{finite}
+use Rattle.over_module.proofs.Facts.{finite}
 use Rattle.endo_ring.proofs.Generators.{all_more, taken_is}
 use Rattle.endo_ring.proofs.narrowing.solutions.Goals as goal
 

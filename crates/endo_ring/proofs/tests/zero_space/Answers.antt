@@ -1,6 +1,6 @@
 use Rattle.std.proofs.Common.{◌*◌, length, sym, ap, subst, ◌∙◌, arith, Fits, w64}
 use Rattle.polys.specs.Curve.{data_of}
-use Rattle.endo_ring.proofs.Facts.{finite, small}
+use Rattle.over_module.proofs.Facts.{finite, small}
 use Rattle.endo_ring.proofs.ZeroSpace.{zero_ideal}
 use Rattle.endo_ring.proofs.tests.zero_space.Goals as goal
 

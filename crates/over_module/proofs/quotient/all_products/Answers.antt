@@ -1,5 +1,3 @@
-use Rattle.std.proofs.Common.{◌≡◌, ◌++◌, sym, ap, ◌∙◌, subst}
-use Rattle.over_module.specs.Quotients.{AreTimes}
 use Rattle.over_module.proofs.ProductLists.{products_more}
 use Rattle.over_module.proofs.quotient.all_products.Goals as goal
 

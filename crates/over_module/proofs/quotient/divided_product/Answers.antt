@@ -1,9 +1,8 @@
-use Rattle.std.proofs.Common.{◌≡◌, ℕ, suc, ◌+◌, ◌*◌, ◌≤◌, length, take, drop, sym, ap, ap₂, ◌∙◌, subst, arith, mul-add, mul-le-mul}
+use Rattle.std.proofs.Common.{◌≡◌, suc, ◌+◌, ◌*◌, ◌≤◌, length, take, drop, ap, ap₂, ◌∙◌, arith, mul-add, mul-le-mul}
 use Rattle.polys.specs.Terms.{mul}
 use Rattle.polys.specs.Curve.{data_of}
 use Rattle.digit_laws.proofs.DigitLaws.{value_poly}
 use Rattle.digit_space.specs.Model.{IsDigitsOf, value_of}
-use Rattle.over_module.specs.Quotients.{IsDividedProduct}
 use Rattle.over_module.proofs.Facts.{finite}
 use Rattle.over_module.proofs.quotient.divided_product.Goals as goal
 use Rattle.over_module.proofs.quotient.divided_product.Goals.{In_ok-whole}

@@ -1,4 +1,4 @@
-use Rattle.std.proofs.Common.{◌≡◌, ℕ, ◌*◌, ◌<◌, [], ◌∷◌, ◌++◌, length, take, get_or, sym, ap, ap₂, ◌∙◌, subst, arith}
+use Rattle.std.proofs.Common.{◌≡◌, ◌*◌, ◌<◌, [], length, take, get_or, sym, ap₂, ◌∙◌, subst}
 use Rattle.std.proofs.lemmas.List.{get_or_default}
 use Rattle.polys.specs.Terms.{mul}
 use Rattle.polys.specs.Curve.{data_of}
@@ -7,7 +7,6 @@ use Rattle.curve_laws.proofs.Base.{high}
 use Rattle.digit_laws.specs.Digits.{AreDigits}
 use Rattle.digit_laws.proofs.DigitLaws.{value_poly}
 use Rattle.digit_space.specs.Model.{IsDigitsOf, value_of}
-use Rattle.over_module.specs.Quotients.{AreTimes}
 use Rattle.over_module.proofs.Facts.{finite, front_digits}
 use Rattle.over_module.proofs.Times.{times_more}
 use Rattle.over_module.proofs.quotient.product_rows.Goals as goal

@@ -1,4 +1,4 @@
-use Rattle.std.proofs.Common.{◌≡◌, ◌*◌, length, map, sym, ap, ◌∙◌, subst}
+use Rattle.std.proofs.Common.{map, ap, ◌∙◌, subst}
 use Rattle.prime_field.proofs.Table.{positive_of_prime}
 use Rattle.polys.specs.Curve.{data_of}
 use Rattle.digit_space.specs.Model.{value_of}

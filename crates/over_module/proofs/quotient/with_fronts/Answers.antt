@@ -1,6 +1,6 @@
-use Rattle.std.proofs.Common.{◌≡◌, ◌↔◌, ℕ, ◌≤◌, ◌<◌, List, take, All, sym, ap, ◌∙◌, subst, arith}
+use Rattle.std.proofs.Common.{◌≡◌, ℕ, ◌≤◌, ◌<◌, List, take, All, sym, subst, arith}
 use Rattle.row_space.specs.Echelon.{IsRow}
-use Rattle.row_space.specs.Subspace.{Subspace, FitsIn, IsIn}
+use Rattle.row_space.specs.Subspace.{Subspace, FitsIn}
 use Rattle.over_module.specs.Quotients.{AreGenerators, HasFronts}
 use Rattle.over_module.specs.Raising.{IsSpannedBy}
 use Rattle.comm_ring.specs.Modules.{InSpan}

@@ -1,7 +1,6 @@
-use Rattle.std.proofs.Common.{◌≡◌, ◌+◌, ◌*◌, suc, length, sym, ap, ap₂, ◌∙◌, subst, arith}
-use Rattle.polys.specs.declared.curve.Curve.{Curve}
-use Rattle.over_laws.specs.Over.{OverData, HasRows}
-use Rattle.over_module.specs.Quotients.{HasFronts, HoldsNumerators}
+use Rattle.std.proofs.Common.{◌≡◌, ◌+◌, ◌*◌, suc, length, sym, ap, ◌∙◌, subst, arith}
+use Rattle.over_laws.specs.Over.{HasRows}
+use Rattle.over_module.specs.Quotients.{HasFronts}
 use Rattle.over_module.proofs.Numerators as Numerators
 use Rattle.over_module.proofs.over.Over.numerators.Goals as goal
 

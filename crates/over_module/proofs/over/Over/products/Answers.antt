@@ -1,11 +1,8 @@
-use Rattle.std.proofs.Common.{◌≡◌, ◌+◌, ◌-◌, ◌*◌, ◌++◌, ◌≤◌, suc, map, length, replicate, List, ℕ, All, sym, ap, ap₂, ◌∙◌, subst, arith}
-use Rattle.polys.specs.Curve.{IsOver, data_of}
+use Rattle.std.proofs.Common.{◌≡◌, ◌+◌, ◌-◌, ◌*◌, ◌++◌, ◌≤◌, suc, map, length, replicate, All, sym, ap, ap₂, ◌∙◌, subst, arith}
+use Rattle.polys.specs.Curve.{data_of}
 use Rattle.curve_model.specs.Point.{basis_of}
 use Rattle.digit_space.specs.Model.{IsDigitRow, value_of}
-use Rattle.over_laws.specs.Over.{OverData}
 use Rattle.quotient_laws.specs.ProductRows.{IsProductSpace}
-use Rattle.quotient_laws.specs.OverQuotients.{HoldsProducts}
-use Rattle.over_module.specs.Quotients.{HoldsNumerators}
 use Rattle.over_module.proofs.Numerators as Numerators
 use Rattle.over_module.proofs.over.Over.products.Goals as goal
 use Rattle.over_module.proofs.over.Over.products.Goals.{In_ok-rows}

@@ -1,4 +1,4 @@
-use Rattle.std.proofs.Common.{◌≡◌, ◌*◌, suc, map, take, length, sym, subst}
+use Rattle.std.proofs.Common.{◌*◌, suc, map, take, length}
 use Rattle.polys.specs.Curve.{data_of}
 use Rattle.curve_model.specs.Point.{basis_of}
 use Rattle.digit_space.specs.Model.{value_of}

@@ -1,4 +1,4 @@
-use Rattle.std.proofs.Common.{◌≡◌, ◌+◌, ◌-◌, ◌*◌, ◌++◌, ◌<◌, ◌≤◌, [], suc, map, take, get_or, length, replicate, List, ℕ, All, refl, sym, ap, ap₂, ◌∙◌, subst, arith, mul-le-mul}
+use Rattle.std.proofs.Common.{◌≡◌, ◌+◌, ◌-◌, ◌*◌, ◌++◌, ◌<◌, ◌≤◌, [], suc, map, get_or, length, replicate, List, ℕ, All, sym, ap, ap₂, ◌∙◌, subst, arith, mul-le-mul}
 use Rattle.std.proofs.lemmas.List.Elements.{All-from_get_or}
 use Rattle.comm_ring.proofs.Modules as Modules
 use Rattle.comm_ring.proofs.Residues.{residues}
@@ -8,17 +8,15 @@ use Rattle.polys.specs.Curve.{data_of}
 use Rattle.digit_laws.specs.Digits.{AreDigits}
 use Rattle.curve_model.specs.Fraction.{denominator_power}
 use Rattle.curve_model.specs.Rings.{IsFractionRing}
-use Rattle.digit_space.specs.Model.{IsDigitSpace, IsDigitRow, value_of}
+use Rattle.digit_space.specs.Model.{IsDigitRow, value_of}
 use Rattle.finite_algebra.specs.Elements.{FiniteAlgebra, IsAlgebra}
-use Rattle.over_laws.specs.Over.{OverData, InOver, HasRows}
+use Rattle.over_laws.specs.Over.{InOver, HasRows}
 use Rattle.quotient_laws.specs.OverQuotients.{HoldsProducts}
 use Rattle.quotient_laws.specs.ProductRows.{HoldsCurve}
 use Rattle.quotient_laws.specs.QuotientRows.{AreQuotientRows}
 use Rattle.row_space.specs.Echelon.{IsRow}
 use Rattle.row_space.specs.Subspace.{IsIn}
-use Rattle.over_module.specs.Complements.{IsInWhole, AreCoordinates, IsComplement}
-use Rattle.over_module.specs.Quotients.{HoldsNumerators, HasCoordinates, IsProductTable}
-use Rattle.over_module.proofs.Numerators as Numerators
+use Rattle.over_module.specs.Quotients.{HasCoordinates, IsProductTable}
 use Rattle.over_module.proofs.Numerators.{here, rows_here, ring_here}
 use Rattle.over_module.proofs.QuotientParts as QuotientParts
 use Rattle.over_module.proofs.QuotientParts.{curve_here, products_here, rows_there}
