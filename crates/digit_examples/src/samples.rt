@@ -15,20 +15,23 @@ use std::sync::Arc;
 use std::test::Fail;
 
 /// The cusp, with a denominator of four corners.
-pub(crate) const CUSP: &str = "ring r = 7,(x,y),dp; ideal I = x3-y2; poly d = x2;";
+pub const CUSP: &str = "ring r = 7,(x,y),dp; ideal I = x3-y2; poly d = x2;";
 
 /// The denominator 1 leaves no corners.
-pub(crate) const UNIT: &str = "ring r = 7,(x,y),dp; ideal I = x3-y2; poly d = 1;";
+pub const UNIT: &str = "ring r = 7,(x,y),dp; ideal I = x3-y2; poly d = 1;";
 
-// A curve that is fit, and its bases.
+/// A curve that is fit, and its bases.
 #[derive(Drop)]
-pub(crate) struct Sample {
-    pub(crate) curve: Arc<Curve>,
-    pub(crate) lifted: Lifted,
+pub struct Sample {
+    pub curve: Arc<Curve>,
+    pub lifted: Lifted,
 }
 
-// The problem of the text.
-pub(crate) fn problem_of(alloc: Global, text: &str) -> Result<Problem, Fail>
+/// The problem of the text.
+///
+/// # Errors
+/// A text that is no problem; want of memory.
+pub fn problem_of(alloc: Global, text: &str) -> Result<Problem, Fail>
     ensures { IfOk result HasFitPolynomials }
 {
     match read_problem(alloc, text.as_bytes()) {
@@ -48,8 +51,11 @@ fn bases(alloc: Global, text: &str) -> Result<Lifted, Fail>
     }
 }
 
-// The curve of the text.
-pub(crate) fn sample_of(alloc: Global, text: &str) -> Result<Sample, Fail>
+/// The curve of the text, and its bases.
+///
+/// # Errors
+/// A text that is no problem, or whose denominator is refused; want of memory.
+pub fn sample_of(alloc: Global, text: &str) -> Result<Sample, Fail>
     ensures fit { IfOk result (λ s. Fit s.curve.value) }
     ensures lifted { IfOk result (λ s. IsLiftedOf s.curve.value s.lifted) }
 {

@@ -3,5 +3,3 @@ mod Sums
 mod Zeros
 mod Generators
 mod Taking
--- for the tests
-mod ZeroSpace

@@ -10,6 +10,3 @@ mod rows;
 mod spaces;
 
 pub use enlarging::endomorphisms;
-
-#[cfg(test)]
-mod tests;

@@ -1,8 +1,8 @@
 use Rattle.std.proofs.Common.{◌*◌, length, sym, ap, subst, ◌∙◌, arith, Fits, w64}
 use Rattle.polys.specs.Curve.{data_of}
 use Rattle.over_module.proofs.Facts.{finite, small}
-use Rattle.endo_ring.proofs.ZeroSpace.{zero_ideal}
-use Rattle.endo_ring.proofs.tests.zero_space.Goals as goal
+use Rattle.ring_examples.proofs.ZeroSpace.{zero_ideal}
+use Rattle.ring_examples.proofs.modules.zero_space.Goals as goal
 
 pub overflow_mul-width : goal.overflow_mul-width
 overflow_mul-width c =
