@@ -163,6 +163,14 @@ pub record IsFound (problem : ProblemData) (condition : List Term → Type 0) (l
   pub low : degree_of l.denominator.terms ≤ MAX_DENOMINATOR_DEGREE
   pub meets : condition l.denominator.terms
 
+-- for the good multiple of f
+abbrev pub IsFoundMultiple : ProblemData → ℕ → List Term → LiftedData → Type 0
+IsFoundMultiple problem cap f l = IsFound problem (IsGoodMultiple problem cap f) l
+
+-- for the first good one of the list
+abbrev pub IsFoundFirst : ProblemData → ℕ → List (List Term) → LiftedData → Type 0
+IsFoundFirst problem cap fs l = IsFound problem (IsFirstGood problem cap fs) l
+
 -- for the chosen denominator
 pub record IsPicked (problem : ProblemData) (cap : ℕ) (l : LiftedData) : Type 0 where
   pub lifted : IsLiftedOf problem l

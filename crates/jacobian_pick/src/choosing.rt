@@ -3,7 +3,8 @@ ghost use Rattle.std.specs.Prelude.{◌≡◌, ◌≢◌, ◌↔◌, ◌⊎◌, 
 ghost use Rattle.polys.specs.declared.curve.TheConstants.{MAX_DENOMINATOR_DEGREE};
 ghost use Rattle.jacobian_pick.specs.declared.jacobian.TheConstants.{MAX_MINOR_DEGREE};
 ghost use Rattle.jacobian_pick.specs.Candidates.{jacobian_of};
-ghost use Rattle.jacobian_pick.specs.Choice.{IsPassedOver, IsGoodMultiple, IsFirstGood, HasDeepIdeal, HasProperIdeal, IsGood, IsChosen, IsReason, IsCause, IsLiftedOf, IsFound, IsPicked, curve_of_lifted};
+ghost use Rattle.jacobian_pick.specs.Choice.{IsPassedOver, IsFoundMultiple, IsFoundFirst, HasDeepIdeal, HasProperIdeal, IsGood};
+ghost use Rattle.jacobian_pick.specs.Choice.{IsChosen, IsReason, IsCause, IsLiftedOf, IsPicked, curve_of_lifted};
 ghost use Rattle.jacobian_pick.specs.Lists.{IsBasisOf, IsUpTo};
 ghost use Rattle.problem.specs.Problem.{HasFitPolynomials, problem_data, curve_of};
 ghost use Rattle.jacobian_pick.specs.declared.choosing.PickStop.TheVariants.{Memory};
@@ -140,7 +141,7 @@ fn good(
     requires not_deep { HasDeepIdeal (problem_data problem.now) cap → ⊥ }
     requires some_cap { 1 ≤ cap }
     requires cap { cap ≤ MAX_CAP }
-    ensures found { IfOk result (λ found. IfSome found (λ l. IsFound (problem_data problem.now) (IsGoodMultiple (problem_data problem.now) cap f.now.terms) l)) }
+    ensures found { IfOk result (λ found. IfSome found (λ l. IsFoundMultiple (problem_data problem.now) cap f.now.terms l)) }
     ensures none { IfOk result (λ found. IsNone found → IsPassedOver (problem_data problem.now) cap f.now.terms) }
 {
     let _prime = problem.prime.get();
@@ -173,7 +174,7 @@ fn first_good(
     requires not_deep { HasDeepIdeal (problem_data problem.now) cap → ⊥ }
     requires some_cap { 1 ≤ cap }
     requires cap { cap ≤ MAX_CAP }
-    ensures found { IfOk result (λ found. IfSome found (λ l. IsFound (problem_data problem.now) (IsFirstGood (problem_data problem.now) cap (terms_of list.now)) l)) }
+    ensures found { IfOk result (λ found. IfSome found (λ l. IsFoundFirst (problem_data problem.now) cap (terms_of list.now) l)) }
     ensures none { IfOk result (λ found. IsNone found → All (IsPassedOver (problem_data problem.now) cap) (terms_of list.now)) }
 {
     for f in list {

@@ -2,3 +2,4 @@ mod Vectors
 mod Members
 mod Bases
 mod Lifting
+mod Quotients

@@ -1,6 +1,5 @@
 -- What a lift owes.
-use Rattle.std.proofs.Common.{◌≡◌, ◌≢◌, ◌↔◌, true, false, ℕ, ◌+◌, ◌-◌, ◌≤◌, ◌<◌, List, [], ◌∷◌, refl, sym, ap, ◌∙◌, subst, arith}
-use Rattle.std.specs.Option.{is_some}
+use Rattle.std.proofs.Common.{◌≡◌, ◌≢◌, ◌↔◌, ℕ, ◌+◌, ◌≤◌, ◌<◌, List, [], ◌∷◌, refl, sym, ap, ◌∙◌, subst, arith}
 use Rattle.std.specs.Prelude.{Result, IfOk}
 use Rattle.std.specs.List.{All}
 use Rattle.std.proofs.lemmas.List.Elements.{All-cons, All-head, All-tail}
@@ -8,23 +7,20 @@ use Rattle.polys.specs.declared.term.Term.{Term}
 use Rattle.polys.specs.Curve.{IsOver}
 use Rattle.polys.specs.Ideal.{HasDim, HasInfiniteDim, InIdeal, Regular, Spans, number_combination}
 use Rattle.polys.specs.Poly.{Polynomial, IsPlain, terms_of}
-use Rattle.polys.specs.Terms.{EachMono, IsPoly, lead, degree_of, scaled, sub, mul, multiple}
+use Rattle.polys.specs.Terms.{EachMono, IsPoly, degree_of, sub, mul}
 use Rattle.polys.proofs.Each.{every_more, every_zip}
 use Rattle.ideal_laws.proofs.Ideals.{in_head, in_more, in_generator, in_larger, in_poly}
-use Rattle.polys.proofs.Units.{canonical_same}
-use Rattle.polys.proofs.Weights.{is_canonical, normal_canon}
 use Rattle.graded_modules.specs.Bases.{IsReduced, IsNormalForm}
 use Rattle.graded_modules.specs.Vector.{IsGradedVector, IsGenerator, IsOfDegree, degree_at}
-use Rattle.homogenising.specs.Homogenised.{homogenised_to, dehomogenised}
+use Rattle.homogenising.specs.Homogenised.{homogenised_to}
 use Rattle.homogenising.specs.Laws.{IsHomogeneousPoly}
 use Rattle.homogenising.proofs.Lifted.{Fits, fits, lifted, degrees_lifted}
 use Rattle.denominator_module.specs.Laws.{IsLifting}
-use Rattle.denominator_module.specs.Module.{first, second}
+use Rattle.denominator_module.specs.Module.{first, quotient_of}
 use Rattle.denominator_module.proofs.Colons.{regular_law}
 use Rattle.denominator_module.proofs.Firsts.{all_from}
 use Rattle.denominator_module.proofs.Lifts.{lift_law}
 use Rattle.denominator_module.proofs.Pairs.{plain_degree}
-use Rattle.denominator_module.proofs.Seconds.{second_homogeneous}
 use Rattle.module_basis.specs.declared.gens.Gens.{Gens}
 use Rattle.standard_monomials.specs.Finding.{HasDimAbove}
 use Rattle.standard_monomials.specs.declared.finding.Dimension.{Dimension}
@@ -120,14 +116,11 @@ module _ (l : LiftedData) (m : Gens) (h : IsLifted l) (hm : HasModule l m) where
           let k = lift_law.none p n d hm.generators (terms_of m.vectors) 1000 g r lifting in
           (λ z. (same_sum g).0 (k.0 z), λ c. k.1 ((same_sum g).1 c))
 
-      pub second_at : (q : ℕ) (w : List Term) → q ≡ l.prime → w ≡ second r → IsHomogeneousPoly q l.variables w
-      second_at q w a b =
-          subst (λ x. IsHomogeneousPoly x n w) (sym a)
-          (subst (IsHomogeneousPoly p n) (sym b) (second_homogeneous p n (degree_of d) r (record { vector = vector; homogeneous = (degree_of g + 1000, degree_r) })))
+      pub pair_at : (q : ℕ) → q ≡ l.prime → (shift : ℕ) × IsGenerator q l.variables shift r
+      pair_at q a = subst (λ x. (shift : ℕ) × IsGenerator x n shift r) (sym a) (degree_of d, record { vector = vector; homogeneous = (degree_of g + 1000, degree_r) })
 
-      pub lift : (u : List Term) → first r ≡ [] → u ≡ sub l.prime [] (dehomogenised l.prime (second r)) → IsLift l g u
-      lift u z a =
-          let e = a ∙ canonical_same p (multiple p (p - 1) (dehomogenised p (second r))) (is_canonical p (multiple p (p - 1) (dehomogenised p (second r))) pos (normal_canon p (scaled (p - 1) (dehomogenised p (second r))))) in
+      pub lift : (u : List Term) → first r ≡ [] → u ≡ quotient_of l.prime r → IsLift l g u
+      lift u z e =
           record {
             poly = subst (IsPoly p n) (sym e) (lift_law.poly p n d hm.generators (terms_of m.vectors) 1000 g r lifting);
             lifts = (hm.same (sub p g (mul p u d))).0
@@ -155,15 +148,6 @@ regular l m h hm =
     (record { prime = h.prime; six = h.six_variables; denominator = h.denominator.poly; generators = h.ideal.reduced.polys }) h.ideal h.colon
     in
     (λ e. k.1 (ap terms_of e), λ r. same_lists l.prime l.variables l.ideal l.colon h.ideal_over h.colon_over (k.0 r))
-
--- ---- tests of leads
-
-pub no_lead : (f : List Term) → is_some (lead f) ≡ false → f ≡ []
-no_lead [] e = refl
-no_lead (t ∷ f) e = absurd (cc)
-
-pub some_lead : (f : List Term) → is_some (lead f) ≡ true → f ≡ [] → ⊥
-some_lead f e z = let q : is_some (lead []) ≡ true = sym (ap (λ g. is_some (lead g)) z) ∙ e in absurd (cc)
 
 -- ---- dimensions
 

@@ -17,9 +17,8 @@ ghost use Rattle.polys.specs.Reduced.{IsReducedBasis};
 ghost use Rattle.polys.specs.Terms.{IsPoly, degree_of};
 ghost use Rattle.prime_field.specs.Primes.{IsPrime};
 
-use crate::parts::{colon_part, module_gens, sum_part};
-use denominator_module::{first_part, second_part};
-use homogenising::{dehomogenised, homogenised_to};
+use crate::parts::{colon_part, has_no_first_part, module_gens, quotient_of, sum_part};
+use homogenising::homogenised_to;
 use lists::{List, NoMemory};
 use module_basis::{BasisStop, Gens, GradedBasis, MAX_CAP, graded_basis, interreduced};
 use polys::{LARGEST_DIMENSION, Poly, are_same};
@@ -280,12 +279,11 @@ impl Lifted {
         ensures none { IfOk result (λ u. IsNone u ↔ (InIdeal self.now.prime self.now.variables (self.now.denominator.terms ∷ terms_of self.now.ideal) g.now.terms → ⊥)) }
     {
         let high = homogenised_to(alloc, self.variables, g.degree() + MAX_CAP, g)?;
-        let rest = self.graded.normal_form(&high)?;
-        if first_part(alloc, &rest)?.lead().is_some() {
+        let rest = self.graded.normal_form_of(high)?;
+        if !has_no_first_part(&rest) {
             return Ok(None);
         }
-        let part = dehomogenised(alloc, self.variables, &second_part(alloc, &rest)?)?;
-        Ok(Some(Poly::zero(alloc, self.prime).sub(&part)?))
+        Ok(Some(quotient_of(alloc, self.variables, &rest)?))
     }
 
     /// Whether d is regular modulo I: whether the colon ideal I : d is I.

@@ -1,10 +1,11 @@
 // The module of a denominator, and the two parts of its basis.
-ghost use Rattle.std.specs.Prelude.{◌≡◌, ◌≤◌, ◌↔◌, ℕ, All, IfOk, IsTrue};
+ghost use Rattle.std.specs.Prelude.{◌≡◌, ◌<◌, ◌≤◌, ◌↔◌, ℕ, [], map, All, IfOk, IsTrue};
 ghost use Rattle.monomials.specs.declared.mono.TheConstants.{MAX_VARIABLES, MAX_DEGREE};
-ghost use Rattle.denominator_module.specs.Module.{with_unit, module_of, sum_members, colon_members};
-ghost use Rattle.graded_modules.specs.Vector.{lead_mono};
+ghost use Rattle.denominator_module.specs.Module.{with_unit, module_of, sum_members, colon_members, first, quotient_of};
+ghost use Rattle.graded_modules.specs.Vector.{IsGenerator, lead_mono};
+ghost use Rattle.lift_colon.specs.Parts.{opposed};
 ghost use Rattle.module_basis.specs.Gens.{AreGens, IsHomogeneousOver};
-ghost use Rattle.polys.specs.Poly.{terms_of};
+ghost use Rattle.polys.specs.Poly.{IsVector, terms_of};
 ghost use Rattle.polys.specs.Curve.{IsOver};
 ghost use Rattle.prime_field.specs.Primes.{IsPrime};
 ghost use Rattle.polys.specs.Terms.{degree_of};
@@ -16,7 +17,7 @@ use module_basis::Gens;
 use monomials::Mono;
 use polys::{Poly, Term};
 use prime_field::Prime;
-use std::alloc::Global;
+use std::alloc::{AllocError, Global};
 
 // The vector (d, 1), homogenised: the second unit vector has the degree of d.
 fn unit_vector(alloc: Global, prime: Prime, variables: u32, d: &Poly) -> Result<Poly, NoMemory>
@@ -119,5 +120,55 @@ fn is_first(v: &Poly) -> bool
     match v.lead() {
         None => true,
         Some(t) => t.mono.component() == 0,
+    }
+}
+
+/// Whether the first part is 0: whether there is no lead, or it lies in the second component.
+pub fn has_no_first_part(v: &Poly) -> bool
+    ensures { IsTrue result ↔ (first v.now.terms ≡ []) }
+{
+    let _terms = v.terms();
+    match v.lead() {
+        None => true,
+        Some(t) => t.mono.component() != 0,
+    }
+}
+
+/// The polynomial u of a pair (0, -u) that is homogeneous: the negatives of the terms of the second part, where the
+/// homogenising variable is 1. No two of them meet, so it takes one step for each.
+pub fn quotient_of(alloc: Global, variables: u32, v: &Poly) -> Result<Poly, NoMemory>
+    requires six_variables { variables ≤ MAX_VARIABLES }
+    requires homogeneous { (shift : ℕ) × IsGenerator v.now.prime variables shift v.now.terms }
+    requires second { first v.now.terms ≡ [] }
+    ensures prime { IfOk result (λ u. u.prime ≡ v.now.prime) }
+    ensures terms { IfOk result (λ u. u.terms ≡ quotient_of v.now.prime v.now.terms) }
+{
+    let p = v.prime();
+    let _prime = p.get();
+    let terms = opposed_terms(alloc, p, v.terms())?;
+    Ok(Poly::of_terms(p, terms))
+}
+
+// The opposed terms of a pair without a first part.
+fn opposed_terms(alloc: Global, p: Prime, v: &[Term]) -> Result<Vec<Term>, AllocError>
+    requires { IsVector p v.now }
+    ensures { IfOk result (λ terms. terms.items ≡ map (opposed p) v.now) }
+{
+    let mut terms = Vec::new(alloc);
+    for t in v {
+        terms.push(opposed_term(p, t))?;
+    }
+    Ok(terms)
+}
+
+// The negative of the term, where the homogenising variable is 1, in the first component.
+fn opposed_term(p: Prime, t: &Term) -> Term
+    requires residue { t.now.coeff < p }
+    ensures { result ≡ opposed p t.now }
+{
+    let _degree = t.mono.degree();
+    Term {
+        coeff: p.neg(t.coeff),
+        mono: t.mono.with_hom(0).with_component(0),
     }
 }

@@ -1,5 +1,5 @@
 -- A basis that grows degree by degree (Buchberger's algorithm; Greuel and Pfister, section on standard bases of modules).
-use Rattle.std.specs.Prelude.{◌≡◌, ◌≢◌, ◌⊎◌, ℕ, ◌<◌, ◌≤◌, List, ◌++◌, length, All, Contains}
+use Rattle.std.specs.Prelude.{◌≡◌, ◌≢◌, ◌⊎◌, ℕ, ◌+◌, ◌<◌, ◌≤◌, List, ◌++◌, length, All, Contains}
 use Rattle.std.specs.declared.cmp.Ordering.TheVariants.{Less}
 use Rattle.monomials.specs.Mono.{Monomial, cmp_dp}
 use Rattle.polys.specs.declared.term.Term.{Term}
@@ -53,9 +53,17 @@ pub record IsAwaited (gens : Gens) (cap : ℕ) (bs : List (List Term)) (ps : Lis
   pub low : pair_degree gens.shift bs i j ≤ cap
   pub waits : IsSettledPair gens bs i j ⊎ Contains ps (pair_of gens.shift bs i j)
 
+-- so it is for these two, if their leads have one component
+abbrev pub IsPairAwaited : Gens → ℕ → List (List Term) → List Pair → ℕ → ℕ → Type 0
+IsPairAwaited gens cap bs ps i j = AreOfOneComponent bs i j → IsAwaited gens cap bs ps i j
+
 -- so it is for each two of the first members with leads of one component
 abbrev pub AreAwaited : Gens → ℕ → List (List Term) → List Pair → ℕ → Type 0
 AreAwaited gens cap bs ps limit = (i j : ℕ) → i < j → j < limit → AreOfOneComponent bs i j → IsAwaited gens cap bs ps i j
+
+-- so it is for the last one of so many members and each one before it
+abbrev pub IsLastAwaited : Gens → ℕ → List (List Term) → List Pair → ℕ → Type 0
+IsLastAwaited gens cap bs ps count = (i k : ℕ) → k + 1 ≡ count → i < k → AreOfOneComponent bs i k → IsAwaited gens cap bs ps i k
 
 -- a basis below the degree e, of vectors of degree at most e
 pub record IsGrown (gens : Gens) (e : ℕ) (bs : List (List Term)) : Type 0 where
@@ -111,6 +119,14 @@ pub record IsNewAt (gens : Gens) (e : ℕ) (bs : List (List Term)) (b : Polynomi
 abbrev pub IsBelowAll : Gens → ℕ → List (List Term) → List Term → Type 0
 IsBelowAll gens e bs v =
     (m : Monomial) → degree_at gens.shift m ≡ e → EachMono (λ w. cmp_dp w m ≡ Less) v → IsSumBelow gens.prime gens.variables gens.shift bs m v
+
+-- f is in the module of bs, if it has the degree e
+abbrev pub IsTaken : Gens → ℕ → List (List Term) → List Term → Type 0
+IsTaken gens e bs f = degree_at gens.shift (lead_mono f) ≡ e → InModule gens.prime gens.variables bs f
+
+-- so is each generator
+abbrev pub AreTaken : Gens → ℕ → List (List Term) → Type 0
+AreTaken gens e bs = (f : List Term) → Contains (terms_of gens.vectors) f → IsTaken gens e bs f
 
 -- two leads of members have a least common multiple above the cap
 abbrev pub HasHighLeads : Gens → ℕ → Type 0

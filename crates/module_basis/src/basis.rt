@@ -148,8 +148,21 @@ impl GradedBasis {
         ensures graded { IfOk result (λ r. IsGradedVector self.now.prime self.now.variables r.terms) }
         ensures degree { IfOk result (λ r. (e : ℕ) → IsOfDegree self.now.shift e v.now.terms → IsOfDegree self.now.shift e r.terms) }
     {
+        self.normal_form_of(v.clone_poly()?)
+    }
+
+    /// The normal form of a vector that is handed over, as of [`normal_form`](GradedBasis::normal_form). The vector is not
+    /// copied.
+    pub fn normal_form_of(&self, v: Poly) -> Result<Poly, NoMemory>
+        requires prime { v.prime ≡ self.now.prime }
+        requires vector { IsGenerator self.now.prime self.now.variables self.now.shift v.terms }
+        ensures prime { IfOk result (λ r. r.prime ≡ self.now.prime) }
+        ensures normal { IfOk result (λ r. IsNormalForm self.now.prime self.now.variables (terms_of self.now.vectors) v.terms r.terms) }
+        ensures graded { IfOk result (λ r. IsGradedVector self.now.prime self.now.variables r.terms) }
+        ensures degree { IfOk result (λ r. (e : ℕ) → IsOfDegree self.now.shift e v.terms → IsOfDegree self.now.shift e r.terms) }
+    {
         let _prime = self.prime.get();
-        let terms = v.clone_poly()?.into_terms();
+        let terms = v.into_terms();
         let alloc = *terms.allocator();
         let rest = vector_remainder(alloc, self.prime, terms, &self.vectors)?;
         Ok(Poly::of_terms(self.prime, rest))

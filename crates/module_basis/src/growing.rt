@@ -7,7 +7,8 @@ ghost use Rattle.module_basis.specs.declared.gens.BasisStop.TheVariants.{Deep};
 ghost use Rattle.module_basis.specs.Gens.{AreGens, IsHomogeneousOver};
 ghost use Rattle.polys.specs.Poly.{terms_of};
 ghost use Rattle.module_division.specs.Vectors.{member};
-ghost use Rattle.module_basis.specs.Growing.{AreOfOneComponent, IsPair, IsSettledPair, IsSettledPairOf, IsAwaited, AreAwaited, IsGrowing, MayGrow, GainsPairs, GainsVector, IsMemberAt, IsNewAt, IsBelowAll, HasHighLeads};
+ghost use Rattle.module_basis.specs.Growing.{IsPair, IsSettledPair, IsSettledPairOf, AreAwaited, IsPairAwaited, IsLastAwaited, IsGrowing, MayGrow};
+ghost use Rattle.module_basis.specs.Growing.{GainsPairs, GainsVector, IsMemberAt, IsTaken, AreTaken, IsNewAt, IsBelowAll, HasHighLeads};
 
 use crate::columns::columns_for;
 use crate::pairs::{Pair, Parted, are_coprime, is_chained, part_by_degree, s_vector};
@@ -63,7 +64,7 @@ impl Growing {
         requires growing { IsGrowing gens.now e self.old }
         ensures growing { OnOk result (IsGrowing gens.now e self.new) }
         ensures gains { OnOk result (GainsVector gens.now e self.old self.new) }
-        ensures members { OnOk result ((f : List Term) → Contains (terms_of gens.now.vectors) f → degree_at gens.now.shift (lead_mono f) ≡ e → InModule gens.now.prime gens.now.variables (terms_of self.new.basis.items) f) }
+        ensures members { OnOk result (AreTaken gens.now e (terms_of self.new.basis.items)) }
         ensures deep { IfErr result (λ stop. stop ≡ Deep → HasHighLeads gens.now self.old.cap) }
     {
         let _prime = gens.prime.get();
@@ -90,7 +91,7 @@ impl Growing {
         requires member { InModule gens.now.prime gens.now.variables (terms_of gens.now.vectors) v.now.terms }
         ensures growing { OnOk result (IsGrowing gens.now e self.new) }
         ensures gains { OnOk result (GainsVector gens.now e self.old self.new) }
-        ensures member { OnOk result (degree_at gens.now.shift (lead_mono v.now.terms) ≡ e → InModule gens.now.prime gens.now.variables (terms_of self.new.basis.items) v.now.terms) }
+        ensures member { OnOk result (IsTaken gens.now e (terms_of self.new.basis.items) v.now.terms) }
         ensures deep { IfErr result (λ stop. stop ≡ Deep → HasHighLeads gens.now self.old.cap) }
     {
         if degree_at(gens.shift, &lead_mono(v)) != u64::from(e) {
@@ -228,7 +229,7 @@ impl Growing {
         requires last { (k : _) → k + 1 ≡ length self.old.basis.items → degree_at gens.now.shift (lead_mono (member (terms_of self.old.basis.items) k)) ≡ e }
         ensures growing { OnOk result (IsGrowing gens.now e self.new) }
         ensures gains { OnOk result (GainsPairs e self.old self.new) }
-        ensures awaited { OnOk result ((i k : _) → k + 1 ≡ length self.old.basis.items → i < k → AreOfOneComponent (terms_of self.old.basis.items) i k → IsAwaited gens.now self.old.cap (terms_of self.old.basis.items) self.new.pairs.items i k) }
+        ensures awaited { OnOk result (IsLastAwaited gens.now self.old.cap (terms_of self.old.basis.items) self.new.pairs.items (length self.old.basis.items)) }
         ensures deep { IfErr result (λ stop. stop ≡ Deep → HasHighLeads gens.now self.old.cap) }
     {
         let last = self.basis.len() - 1;
@@ -248,7 +249,7 @@ impl Growing {
         requires last { degree_at gens.now.shift (lead_mono (member (terms_of self.old.basis.items) second)) ≡ e }
         ensures growing { OnOk result (IsGrowing gens.now e self.new) }
         ensures gains { OnOk result (GainsPairs e self.old self.new) }
-        ensures awaited { OnOk result (AreOfOneComponent (terms_of self.old.basis.items) first second → IsAwaited gens.now self.old.cap (terms_of self.old.basis.items) self.new.pairs.items first second) }
+        ensures awaited { OnOk result (IsPairAwaited gens.now self.old.cap (terms_of self.old.basis.items) self.new.pairs.items first second) }
         ensures deep { IfErr result (λ stop. stop ≡ Deep → HasHighLeads gens.now self.old.cap) }
     {
         let _prime = gens.prime.get();

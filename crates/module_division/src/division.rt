@@ -9,25 +9,13 @@ ghost use Rattle.graded_modules.specs.Vector.{lead_mono};
 ghost use Rattle.graded_modules.specs.Module.{IsLeadMultiple};
 ghost use Rattle.module_division.specs.Division.{IsDivisor, Reduces, term_product};
 
-use crate::leads::lead_mono;
+use crate::leads::{find_divisor, lead_mono, lead_rows};
 use monomials::Mono;
 use polys::{Poly, Term};
 use prime_field::Prime;
 use std::alloc::{AllocError, Global};
 use std::cmp::Ordering;
 use std::mem;
-
-// The number of the first vector whose lead divides the monomial.
-pub(crate) fn find_divisor(divisors: &[Poly], m: &Mono) -> Option<usize>
-    ensures { MatchOption result (IsLeadMultiple (terms_of divisors.now) m.now → ⊥) (λ k. (k < length divisors.now) × ((d : _) → Divides (lead_mono (slice_index_or divisors.now k d).terms) m.now)) }
-{
-    for i in 0..divisors.len() {
-        if Mono::divides(&lead_mono(&divisors[i]), m) {
-            return Some(i);
-        }
-    }
-    None
-}
 
 // The product of two terms, of which the second has component 0.
 fn term_product(p: Prime, u: &Term, t: &Term) -> Term
@@ -130,8 +118,8 @@ fn add_multiple(
 /// What is left of the vector `v` when the leads of the divisors divide no monomial any more. The divisors are monic, and
 /// no monomial of one has more degree than its lead, with unit vectors not counted.
 ///
-/// It works in three buffers. Each step takes away one monomial: it looks at the divisors' leads until one divides it, and
-/// then makes a multiple of that divisor and merges what is left with it, one step for each term of both.
+/// It works in three buffers. Each step takes away one monomial: it looks at the divisors' leads, which it has put into one
+/// flat list, until one divides it, and then makes a multiple of that divisor and merges what is left with it, one step for each term of both.
 ///
 /// Greuel and Pfister, section on normal forms.
 pub fn vector_remainder(
@@ -151,10 +139,11 @@ pub fn vector_remainder(
     let mut next = Vec::new(alloc);
     let mut product = Vec::new(alloc);
     let mut out = Vec::new(alloc);
+    let leads = lead_rows(alloc, divisors)?;
     let mut i: usize = 0;
     while i < rest.len() {
         let t = rest[i];
-        match find_divisor(divisors, &t.mono) {
+        match find_divisor(&leads, divisors, &t.mono) {
             None => {
                 out.push(t)?;
                 i += 1;

@@ -5,8 +5,8 @@ ghost use Rattle.polys.specs.Poly.{Polynomial, IsVector, terms_of};
 ghost use Rattle.module_division.specs.Division.{IsDivisor};
 ghost use Rattle.module_division.specs.Reduction.{IsTailReduced, AreSorted, IsCore, IsInterreduced, IsKept};
 
-use crate::division::{find_divisor, vector_remainder};
-use crate::leads::lead_mono;
+use crate::division::vector_remainder;
+use crate::leads::{find_divisor, lead_mono, lead_rows};
 use lists::NoMemory;
 use monomials::Mono;
 use polys::{Poly, Term};
@@ -73,7 +73,8 @@ fn without_superfluous(alloc: Global, vectors: &[Poly]) -> Result<Vec<Poly>, NoM
 fn keep_unless_superfluous(kept: &mut Vec<Poly>, f: &Poly) -> Result<(), NoMemory>
     ensures { OnOk result (IsKept kept.old.items f.now kept.new.items) }
 {
-    match find_divisor(kept, &lead_mono(f)) {
+    let leads = lead_rows(*kept.allocator(), kept)?;
+    match find_divisor(&leads, kept, &lead_mono(f)) {
         Some(_) => Ok(()),
         None => {
             let copy = f.clone_poly()?;

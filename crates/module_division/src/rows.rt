@@ -10,8 +10,8 @@ ghost use Rattle.module_division.specs.declared.rows.TheConstants.{ENTRY_LIMIT};
 ghost use Rattle.module_division.specs.Rows.{AreFalling, row_terms};
 
 use crate::columns::{Columns, Guesses, Places, is_column};
-use crate::division::{find_divisor, vector_remainder};
-use crate::leads::lead_mono;
+use crate::division::vector_remainder;
+use crate::leads::{find_divisor, lead_mono, lead_rows};
 use monomials::Mono;
 use polys::{Poly, Term};
 use prime_field::Prime;
@@ -151,11 +151,12 @@ fn row_remainder(
         return Ok(None);
     };
     let mut out = Vec::new(alloc);
+    let leads = lead_rows(alloc, divisors)?;
     for i in 0..columns.len() {
         let coeff = residue(p, row[i]);
         if coeff != 0 {
             let mono = columns[i];
-            match find_divisor(divisors, &mono) {
+            match find_divisor(&leads, divisors, &mono) {
                 None => out.push(Term { coeff, mono })?,
                 Some(k) => {
                     let b = &divisors[k];

@@ -42,7 +42,7 @@ neg-requires c =
 
 pub add_multiple-requires-clause-left : goal.add_multiple-requires-clause-left
 add_multiple-requires-clause-left c =
-    rw (c.deref.ensures.value, take_rest) (left_vector c.args.p c.loop-i.out.items (drop c.loop-i.i c.loop-i.rest.items) c.loop-i.invariant.vector)
+    rw (c.deref-in-Some.ensures.value, take_rest) (left_vector c.args.p c.loop-i.out.items (drop c.loop-i.i c.loop-i.rest.items) c.loop-i.invariant.vector)
 
 -- the place in what is left, and the multiple that takes its monomial away
 record IsAt (p : ℕ) (fs : List Polynomial) (b : Polynomial) (R : List Term) (i : ℕ) (t s : Term) : Type 0 where
@@ -74,9 +74,9 @@ next_is : (c : After-swap) → drop c.loop-i.i c.loop-i.rest.items ≡ c.index.r
 next_is c q =
     let p = c.args.p in
     let i = c.loop-i.i in
-    let D = c.deref.result.now in
+    let D = c.deref-in-Some.result.now in
     let rest = c.index.result.now ∷ drop (i + 1) c.loop-i.rest.items in
-    let slice : take (length D - i) (drop i D) ≡ rest = rw (c.deref.ensures.value, take_rest) q in
+    let slice : take (length D - i) (drop i D) ≡ rest = rw (c.deref-in-Some.ensures.value, take_rest) q in
     ap (λ w. w.items) c.swap.ensures.x_after ∙ c.in_ok-add_multiple-in-Some.ensures.value
     ∙ (λ k. add p (slice k) (mul p (c.terms.ensures.value k) (record { coeff = c.neg.result; mono = c.quotient.result } ∷ [])))
 

@@ -1,52 +1,45 @@
-use Rattle.std.proofs.Common.{◌+◌, refl, sym, ap, ◌∙◌, subst}
-use Rattle.std.specs.Option.{is_some}
-use Rattle.homogenising.specs.Homogenised.{homogenised_to, dehomogenised}
-use Rattle.homogenising.specs.Laws.{IsHomogeneousPoly}
-use Rattle.polys.specs.Terms.{sub}
+use Rattle.std.proofs.Common.{ℕ, ◌+◌, refl, sym, ap, ◌∙◌, subst}
+use Rattle.graded_modules.specs.Vector.{IsGenerator}
+use Rattle.homogenising.specs.Homogenised.{homogenised_to}
+use Rattle.denominator_module.specs.Module.{quotient_of}
 use Rattle.lift_colon.specs.Lifted.{LiftedData, IsLifted, HasModule}
-use Rattle.lift_colon.proofs.Lifting.{generator_at, none, second_at, lift, no_lead, some_lead}
+use Rattle.lift_colon.proofs.Lifting.{generator_at, none, pair_at, lift}
 use Rattle.lift_colon.proofs.lifted.Lifted.lift.Goals as goal
 
-pub normal_form-requires-clause-vector : goal.normal_form-requires-clause-vector
-normal_form-requires-clause-vector c =
+pub normal_form_of-requires-clause-vector : goal.normal_form_of-requires-clause-vector
+normal_form_of-requires-clause-vector c =
     let g = c.args.g.now.terms in
     let k = subst (λ x. IsLifted x × HasModule x c.self.inside.graded) c.self.view_is (c.self.invariant.0, c.self.invariant.1) in
     generator_at c.args.self.now c.self.inside.graded k.0 k.1 g c.requires.poly c.in_ok-high.high.terms (c.in_ok-high.ensures.terms ∙ ap (λ x. homogenised_to (x + 1000) g) c.degree.ensures)
 
-pub returns-then-is_some-clause-none : goal.returns-then-is_some-clause-none
-returns-then-is_some-clause-none c =
+pub returns-then-not-has_no_first_part-clause-none : goal.returns-then-not-has_no_first_part-clause-none
+returns-then-not-has_no_first_part-clause-none c =
     let g = c.args.g.now.terms in
     let k = subst (λ x. IsLifted x × HasModule x c.self.inside.graded) c.self.view_is (c.self.invariant.0, c.self.invariant.1) in
     let e = c.in_ok-high.ensures.terms ∙ ap (λ x. homogenised_to (x + 1000) g) c.degree.ensures in
     let q =
     none c.args.self.now c.self.inside.graded k.0 k.1 g c.requires.poly c.in_ok-high.high.terms c.in_ok-rest.rest.terms e c.in_ok-rest.ensures.graded c.in_ok-rest.ensures.degree c.in_ok-rest.ensures.normal
-    in (
-      λ z x. some_lead c.in_ok-first_part.field-0.terms (sym (c.if-is_some.ensures ∙ ap is_some c.lead-2.ensures)) (c.in_ok-first_part.ensures.terms ∙ q.1 x),
-      λ z. refl,
-    )
+    in (λ z x. (let w = c.if-not-has_no_first_part.ensures.1 (q.1 x) in absurd (cc)), λ z. refl)
 
-pub dehomogenised-requires-clause-homogeneous : goal.dehomogenised-requires-clause-homogeneous
-dehomogenised-requires-clause-homogeneous c =
+pub quotient_of-requires-clause-homogeneous : goal.quotient_of-requires-clause-homogeneous
+quotient_of-requires-clause-homogeneous c =
     let g = c.args.g.now.terms in
     let k = subst (λ x. IsLifted x × HasModule x c.self.inside.graded) c.self.view_is (c.self.invariant.0, c.self.invariant.1) in
     let e = c.in_ok-high.ensures.terms ∙ ap (λ x. homogenised_to (x + 1000) g) c.degree.ensures in
-    subst (λ x. IsHomogeneousPoly c.in_ok-second_part.field-0.prime x c.in_ok-second_part.field-0.terms) (sym (ap (λ (l : LiftedData). l.variables) c.self.view_is))
-    (second_at c.args.self.now c.self.inside.graded k.0 k.1 g c.requires.poly c.in_ok-high.high.terms c.in_ok-rest.rest.terms e c.in_ok-rest.ensures.graded c.in_ok-rest.ensures.degree c.in_ok-rest.ensures.normal
-    c.in_ok-second_part.field-0.prime c.in_ok-second_part.field-0.terms (c.in_ok-second_part.ensures.prime ∙ c.in_ok-rest.ensures.prime ∙ k.1.prime) c.in_ok-second_part.ensures.terms)
+    subst (λ n. (shift : ℕ) × IsGenerator c.in_ok-rest.rest.prime n shift c.in_ok-rest.rest.terms) (sym (ap (λ (l : LiftedData). l.variables) c.self.view_is))
+    (pair_at c.args.self.now c.self.inside.graded k.0 k.1 g c.requires.poly c.in_ok-high.high.terms c.in_ok-rest.rest.terms e c.in_ok-rest.ensures.graded c.in_ok-rest.ensures.degree c.in_ok-rest.ensures.normal
+    c.in_ok-rest.rest.prime (c.in_ok-rest.ensures.prime ∙ k.1.prime))
 
 pub returns-clause-some : goal.returns-clause-some
 returns-clause-some c =
     let g = c.args.g.now.terms in
     let k = subst (λ x. IsLifted x × HasModule x c.self.inside.graded) c.self.view_is (c.self.invariant.0, c.self.invariant.1) in
     let e = c.in_ok-high.ensures.terms ∙ ap (λ x. homogenised_to (x + 1000) g) c.degree.ensures in
-    let z = sym c.in_ok-first_part.ensures.terms ∙ no_lead c.in_ok-first_part.field-0.terms (sym (c.if-is_some.ensures ∙ ap is_some c.lead-2.ensures)) in
-    let p = ap (λ (l : LiftedData). l.prime) c.self.view_is in
-    let s = c.in_ok-second_part.ensures.prime ∙ c.in_ok-rest.ensures.prime ∙ k.1.prime in
-    let part = c.in_ok-part.ensures.terms ∙ (λ i. dehomogenised (s i) (c.in_ok-second_part.ensures.terms i)) in (
-      ap (λ f. f.prime) c.in_ok-sub.ensures ∙ ap (λ f. f.prime) c.zero.ensures ∙ p,
+    let z = c.if-not-has_no_first_part.ensures.0 refl in
+    let s = c.in_ok-rest.ensures.prime ∙ k.1.prime in (
+      c.in_ok-quotient_of.ensures.prime ∙ s,
       lift c.args.self.now c.self.inside.graded k.0 k.1 g c.requires.poly c.in_ok-high.high.terms c.in_ok-rest.rest.terms e c.in_ok-rest.ensures.graded c.in_ok-rest.ensures.degree c.in_ok-rest.ensures.normal
-          c.in_ok-sub.field-0.terms z
-          (ap (λ f. f.terms) c.in_ok-sub.ensures ∙ (λ i. sub ((ap (λ f. f.prime) c.zero.ensures ∙ p) i) ((ap (λ f. f.terms) c.zero.ensures) i) (part i))),
+          c.in_ok-quotient_of.field-0.terms z (c.in_ok-quotient_of.ensures.terms ∙ (λ i. quotient_of (s i) c.in_ok-rest.rest.terms)),
     )
 
 pub returns-clause-none : goal.returns-clause-none
@@ -54,8 +47,7 @@ returns-clause-none c =
     let g = c.args.g.now.terms in
     let k = subst (λ x. IsLifted x × HasModule x c.self.inside.graded) c.self.view_is (c.self.invariant.0, c.self.invariant.1) in
     let e = c.in_ok-high.ensures.terms ∙ ap (λ x. homogenised_to (x + 1000) g) c.degree.ensures in
-    let z = sym c.in_ok-first_part.ensures.terms ∙ no_lead c.in_ok-first_part.field-0.terms (sym (c.if-is_some.ensures ∙ ap is_some c.lead-2.ensures)) in
+    let z = c.if-not-has_no_first_part.ensures.0 refl in
     let q =
     none c.args.self.now c.self.inside.graded k.0 k.1 g c.requires.poly c.in_ok-high.high.terms c.in_ok-rest.rest.terms e c.in_ok-rest.ensures.graded c.in_ok-rest.ensures.degree c.in_ok-rest.ensures.normal
-    in
-    (λ w x. absurd (cc), λ h. absurd (h (q.0 z)))
+    in (λ w x. absurd (cc), λ h. absurd (h (q.0 z)))
