@@ -79,8 +79,8 @@ abbrev pub at : Monomial → Term
 at m = record { coeff = 1; mono = m }
 
 -- the monomials below the lead
-pub lower : (p : ℕ) (t : Term) (f : List Term) → IsCanonical p (t ∷ f) → EachMono (λ w. cmp_dp w t.mono ≡ Less) f
-lower p t f c = every_more (λ w. cmp_dp t.mono w ≡ Greater) (λ w. cmp_dp w t.mono ≡ Less) f (λ w e. turn_down t.mono w e) (every_low p t.mono f (canon p f c.3) c.2)
+pub below_lead : (p : ℕ) (t : Term) (f : List Term) → IsCanonical p (t ∷ f) → EachMono (λ w. cmp_dp w t.mono ≡ Less) f
+below_lead p t f c = every_more (λ w. cmp_dp t.mono w ≡ Greater) (λ w. cmp_dp w t.mono ≡ Less) f (λ w e. turn_down t.mono w e) (every_low p t.mono f (canon p f c.3) c.2)
 
 -- what is below the lead leaves the lead in a difference
 pub lead_stays : (p n : ℕ) (t : Term) (f g : List Term) → 0 < p → IsPoly p n (t ∷ f) → IsPoly p n g → EachMono (λ w. cmp_dp w t.mono ≡ Less) g → sub p (t ∷ f) g ≡ t ∷ sub p f g
@@ -93,7 +93,7 @@ lead_stays p n t f g h hf hg l =
     under : Under t.mono (sub p f g)
     under =
         every_under (λ w. cmp_dp w t.mono ≡ Less) t.mono (sub p f g) (λ w e. turn_up w t.mono e)
-        (every_add (λ w. cmp_dp w t.mono ≡ Less) p f (multiple p (p - 1) g) (lower p t f hf.canonical) (every_multiple (λ w. cmp_dp w t.mono ≡ Less) p (p - 1) g l))
+        (every_add (λ w. cmp_dp w t.mono ≡ Less) p f (multiple p (p - 1) g) (below_lead p t f hf.canonical) (every_multiple (λ w. cmp_dp w t.mono ≡ Less) p (p - 1) g l))
 
 -- m is the lead of a monic member
 abbrev pub IsMonicLead : ℕ → ℕ → List (List Term) → Monomial → Type 0
@@ -152,7 +152,7 @@ module _ (p n : ℕ) (prime : IsPrime p) (hs : List (List Term)) (polys : All (I
         among : EachMono (Contains ws) f
         among =
             every_more (λ w. IsAffine n w × (cmp_dp w t.mono ≡ Less)) (Contains ws) f (λ w b. each_smaller n m a w (b.0, ap (cmp_dp w) (sym e) ∙ b.1))
-            (every_zip (IsAffine n) (λ w. cmp_dp w t.mono ≡ Less) f h.affine.1 (lower p t f h.canonical))
+            (every_zip (IsAffine n) (λ w. cmp_dp w t.mono ≡ Less) f h.affine.1 (below_lead p t f h.canonical))
 
         span : IsSubmodule V.ops (InSpan V.ops vs)
         span = Modules.span_submodule (Space.K p n prime) V vs

@@ -2,7 +2,8 @@
 pub mod Corners
 -- an ideal with a standard basis has a reduced one
 pub mod Reducing
+-- where membership is decided leads are; what stands behind a lead, and a difference that keeps it
+pub mod LeadsDecided
 -- for this crate alone
 mod Decisions
-mod LeadsDecided
 mod Sorting

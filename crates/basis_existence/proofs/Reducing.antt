@@ -24,7 +24,7 @@ use Rattle.homogenising.proofs.Spanning.{pos, reduced_law}
 use Rattle.standard_monomials.specs.Standard.{AreMinimal, IsStandardBasis, IsStandard, IsRemainder, polynomial_of}
 use Rattle.basis_existence.specs.Laws.{StandardBasesAreReduced, ReducedBasesExist}
 use Rattle.basis_existence.proofs.Corners.{corners_law}
-use Rattle.basis_existence.proofs.LeadsDecided.{at, lower, lead_stays}
+use Rattle.basis_existence.proofs.LeadsDecided.{at, below_lead, lead_stays}
 use Rattle.standard_monomials.proofs.Lists.{each_of, contains_map, contained_map, pairs_none, pairs_cons, pairs_head, pairs_tail}
 use Rattle.standard_monomials.proofs.Minimal.{no_divisor}
 use Rattle.standard_monomials.proofs.Remainders.{basis_polys, remainder}
@@ -32,7 +32,8 @@ use Rattle.basis_existence.proofs.Sorting.{Sorted, sort, Thinned, thin, Apart}
 use Rattle.standard_monomials.proofs.Space as Space
 use Rattle.standard_monomials.proofs.Sums.{monomial_poly}
 
-of_each : (P : Monomial → Type 0) (f : List Term) → EachMono P f → (m : Monomial) → Contains (map (λ u. u.mono) f) m → P m
+-- the monomials of a polynomial, one by one
+pub of_each : (P : Monomial → Type 0) (f : List Term) → EachMono P f → (m : Monomial) → Contains (map (λ u. u.mono) f) m → P m
 of_each P [] h m c = absurd (contains_none m c)
 of_each P (t ∷ f) h m c = each_of P t.mono (map (λ u. u.mono) f) h.0 (of_each P f h.1) m c
 
@@ -73,7 +74,7 @@ module _ (p n : ℕ) (prime : IsPrime p) (gs ds : List (List Term)) (hi : All (I
           flipped = (Space.space p n prime gs).symm {x = record { terms = polynomial_of m; is_poly = poly }} {y = record { terms = t ∷ f; is_poly = k.poly }} k.close
 
           pick : (o : Ordering) → cmp_dp t.mono m ≡ o → Tailed m
-          pick Less e = below (t ∷ f) k (e, every_more (Below t.mono) (Below m) f (λ w l. dp_total.trans w t.mono m l e) (lower p t f k.poly.canonical))
+          pick Less e = below (t ∷ f) k (e, every_more (Below t.mono) (Below m) f (λ w l. dp_total.trans w t.mono m l e) (below_lead p t f k.poly.canonical))
           pick Equal e = absurd (k.standard.0.outside (subst (IsLeadMultiple ds) (sym (same_dp t.mono m e)) d))
           pick Greater e =
               absurd (k.standard.0.outside (base.leads t (sub p f (polynomial_of m))

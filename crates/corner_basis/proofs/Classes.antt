@@ -19,11 +19,8 @@ use Rattle.row_space.specs.Subspace.{Subspace, Gains, IsIn}
 use Rattle.digit_laws.specs.Digits.{AreCornersOf, AreDigits, HasDigitsIn, IsOfDigits}
 use Rattle.digit_laws.specs.Laws.{DigitsAreCoordinates}
 use Rattle.digit_laws.proofs.DigitLaws.{digit_law}
-use Rattle.corner_basis.proofs.Numbers.{opposite_row}
-
--- the same rows and width, by other names
-pub moved_in : (p q n m : ℕ) (vs : List (List ℕ)) (row : List ℕ) → p ≡ q → n ≡ m → InSpan (rows p n) vs row → InSpan (rows q m) vs row
-moved_in p q n m vs row e f h = subst (λ z. InSpan (rows q z) vs row) f (subst (λ z. InSpan (rows z n) vs row) e h)
+use Rattle.digit_laws.proofs.Linear.{opposite_row}
+use Rattle.digit_laws.proofs.Spaces.{moved_in}
 
 module _ (A : CurveData) (c : IsFinite A) (ms : List Monomial) (k : AreCornersOf A ms) (T : ℕ) where
   pub pos : 0 < A.prime

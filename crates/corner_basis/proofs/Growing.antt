@@ -28,7 +28,7 @@ use Rattle.digit_laws.specs.Digits.{AreCornersOf, AreDigits}
 use Rattle.digit_laws.proofs.Blocks.{multiple_none}
 use Rattle.digit_laws.proofs.Spaces.{affine_poly}
 use Rattle.corner_basis.specs.Staircase.{HasDivisor, IsAmong, IsClassOf, IsReducible, IsStaircase}
-use Rattle.corner_basis.proofs.Leads.{below_lead}
+use Rattle.basis_existence.proofs.LeadsDecided.{below_lead}
 use Rattle.corner_basis.proofs.Classes.{pos, P, W, laws, Span, RM, Scalars, In, up, down, k_row, gained_digits, gained, regained}
 
 module _ (C : CommRing) where

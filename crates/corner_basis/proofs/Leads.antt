@@ -1,20 +1,16 @@
 -- Where all monomials are tried, the leads of the ideal are the multiples of those that were found.
-use Rattle.std.proofs.Common.{◌≡◌, ◌⊎◌, inl, inr, ℕ, ◌-◌, ◌*◌, ◌<◌, List, [], ◌∷◌, map, length, All, sym, ap, ◌∙◌, subst}
+use Rattle.std.proofs.Common.{◌≡◌, ◌⊎◌, inl, inr, ℕ, ◌-◌, ◌*◌, ◌<◌, List, [], ◌∷◌, map, length, All, sym, subst}
 use Rattle.std.specs.List.{Contains}
-use Rattle.std.specs.declared.cmp.Ordering.TheVariants.{Less, Greater}
+use Rattle.std.specs.declared.cmp.Ordering.TheVariants.{Less}
 use Rattle.std.proofs.lemmas.List.Elements.{All-contains_itself, All-weaker, Contains-append_right}
 use Rattle.monomials.specs.Mono.{Monomial, cmp_dp}
 use Rattle.monomials.proofs.Factors.{divides_trans}
-use Rattle.monomials.proofs.Order.{turn_down, turn_up}
 use Rattle.polys.specs.declared.term.Term.{Term}
-use Rattle.polys.specs.Terms.{EachMono, IsAffine, IsCanonical, IsPoly, Under, put, sub, multiple}
+use Rattle.polys.specs.Terms.{EachMono, IsAffine, IsPoly, sub, multiple}
 use Rattle.polys.specs.Ideal.{InIdeal, HasDim}
 use Rattle.polys.specs.Curve.{CurveData}
 use Rattle.polys.proofs.Affine.{poly_sub}
-use Rattle.polys.proofs.Each.{every_add, every_more, every_multiple, every_under}
-use Rattle.polys.proofs.Leads.{every_low}
-use Rattle.polys.proofs.Units.{canonical_same}
-use Rattle.polys.proofs.Weights.{canon}
+use Rattle.polys.proofs.Each.{every_add, every_more, every_multiple}
 use Rattle.ideal_laws.proofs.Ideals.{in_generator}
 use Rattle.ideal_laws.proofs.Unique.{same_from_sub}
 use Rattle.curve_model.specs.Fraction.{denominator_power}
@@ -26,29 +22,13 @@ use Rattle.row_space.specs.Subspace.{Subspace}
 use Rattle.standard_monomials.specs.Standard.{AreCorners, IsRemainder, IsStandard, polynomial_of}
 use Rattle.standard_monomials.proofs.Remainders.{remainder}
 use Rattle.basis_existence.proofs.Corners.{corners_law, larger_law}
+use Rattle.basis_existence.proofs.LeadsDecided.{lead_stays}
 use Rattle.digit_laws.specs.Digits.{AreCornersOf, numerators, value}
 use Rattle.digit_laws.specs.Laws.{SpaceIsIdeal}
 use Rattle.digit_laws.proofs.DigitLaws.{gens, basis_of}
 use Rattle.digit_laws.proofs.Spaces.{affine_poly}
 use Rattle.corner_basis.specs.Staircase.{HasDivisor, IsStaircase}
 use Rattle.corner_basis.proofs.Classes.{pos}
-
--- the terms behind the lead are below it
-pub below_lead : (p : ℕ) (t : Term) (f : List Term) → IsCanonical p (t ∷ f) → EachMono (λ w. cmp_dp w t.mono ≡ Less) f
-below_lead p t f h = every_more (λ w. cmp_dp t.mono w ≡ Greater) (λ w. cmp_dp w t.mono ≡ Less) f (λ w e. turn_down t.mono w e) (every_low p t.mono f (canon p f h.3) h.2)
-
--- what is below the lead leaves the lead in a difference
-pub lead_stays : (p n : ℕ) (t : Term) (f g : List Term) → 0 < p → IsPoly p n (t ∷ f) → IsPoly p n g → EachMono (λ w. cmp_dp w t.mono ≡ Less) g → sub p (t ∷ f) g ≡ t ∷ sub p f g
-lead_stays p n t f g h hf hg l =
-    ap (put p t) (sym (canonical_same p (sub p f g) rest.canonical)) ∙ canonical_same p (t ∷ sub p f g) (hf.canonical.0, hf.canonical.1, under, rest.canonical)
-  where
-    rest : IsPoly p n (sub p f g)
-    rest = poly_sub p n f g h (record { canonical = hf.canonical.3; affine = hf.affine.1 }) hg
-
-    under : Under t.mono (sub p f g)
-    under =
-        every_under (λ w. cmp_dp w t.mono ≡ Less) t.mono (sub p f g) (λ w e. turn_up w t.mono e)
-        (every_add (λ w. cmp_dp w t.mono ≡ Less) p f (multiple p (p - 1) g) (below_lead p t f hf.canonical) (every_multiple (λ w. cmp_dp w t.mono ≡ Less) p (p - 1) g l))
 
 module _ (A : CurveData) (c : IsFinite A) (ms : List Monomial) (k : AreCornersOf A ms) (T : ℕ) (space span : Subspace) (ideal : SpaceIsIdeal A ms T space) (ss ls : List Monomial)
     (h : IsStaircase A ms T space span ss ls) (whole : (m : Monomial) → IsAffine A.variables m → Contains ss m ⊎ HasDivisor ls m) where

@@ -1,13 +1,11 @@
 -- Sums of multiples of polynomials by rows of numbers.
-use Rattle.std.proofs.Common.{◌≡◌, ℕ, zero, suc, ◌+◌, ◌-◌, ◌*◌, ◌%◌, ◌<◌, List, [], ◌∷◌, ◌++◌, map, length, get_or, set, replicate, All, refl, sym, ap, ap₂, ◌∙◌, subst, arith, mod-eq_of_lt}
+use Rattle.std.proofs.Common.{◌≡◌, ℕ, zero, suc, ◌+◌, ◌-◌, ◌*◌, ◌%◌, ◌<◌, List, [], ◌∷◌, ◌++◌, map, length, get_or, set, replicate, All, refl, sym, ap, ap₂, ◌∙◌, subst, arith}
 use Rattle.std.specs.List.{Contains}
 use Rattle.std.proofs.lemmas.List.Elements.{All-head, All-tail}
 use Rattle.comm_ring.specs.Modules.{combination, module_through}
 use Rattle.comm_ring.specs.Rows.{rows}
 use Rattle.comm_ring.proofs.Fields.{residue_coefficients}
-use Rattle.comm_ring.proofs.Modules as Modules
 use Rattle.comm_ring.proofs.Modules.{Module, through}
-use Rattle.comm_ring.proofs.Residues.{residues}
 use Rattle.comm_ring.proofs.Rows.{row_module}
 use Rattle.monomials.specs.Mono.{Monomial, unit}
 use Rattle.prime_field.specs.Primes.{IsPrime}
@@ -24,18 +22,8 @@ use Rattle.homogenising.proofs.Spanning.{pos, two}
 use Rattle.standard_monomials.specs.Standard.{polynomial_of}
 use Rattle.standard_monomials.proofs.Space as Space
 use Rattle.standard_monomials.proofs.Sums.{spread, monomial_polys}
-use Rattle.digit_laws.proofs.Linear.{row-length, same_rows, sum_rows, multiple_row}
+use Rattle.digit_laws.proofs.Linear.{opposite_row, row-length, same_rows, sum_rows, multiple_row}
 use native.Mathlib.Nat.{zero-mod}
-
--- p - 1 times a row is its opposite
-pub opposite_row : (p width : ℕ) → 1 < p → (positive : 0 < p) → (y : List ℕ) → (rows p width).◌≋◌ ((rows p width).◌·◌ (p - 1) y) ((rows p width).opposite y)
-opposite_row p width high positive y = let R = row_module p positive width in R.trans (R.scale_cong {x = y} {x' = y} same (R.rfl y)) (Modules.opposite_is (residues p positive) R y)
-  where
-    same : (p - 1) % p ≡ ((p - 1 % p) % p) % p
-    same =
-        let one : 1 % p ≡ 1 = mod-eq_of_lt high in
-        let less : (p - 1) % p ≡ p - 1 = mod-eq_of_lt (omega arith) in
-        sym (ap (λ z. ((p - z) % p) % p) one ∙ ap (λ z. z % p) less)
 
 module _ (p n : ℕ) (prime : IsPrime p) where
   abbrev positive : 0 < p

@@ -1,35 +1,29 @@
 -- The members with the leads that were found are the reduced basis.
-use Rattle.std.proofs.Common.{◌≡◌, inr, ℕ, suc, ◌<◌, List, [], ◌∷◌, map, length, get_or, All, refl, sym, ap, ◌∙◌, subst, arith}
+use Rattle.std.proofs.Common.{◌≡◌, inr, ℕ, suc, ◌<◌, List, [], ◌∷◌, length, get_or, All, refl, sym, ap, ◌∙◌, subst, arith}
 use Rattle.std.specs.List.{AllPairs, Contains}
 use Rattle.std.specs.declared.cmp.Ordering.TheVariants.{Less}
 use Rattle.std.proofs.lemmas.List.{get_or_default}
 use Rattle.std.proofs.lemmas.List.Elements.{All-from_get_or}
 use Rattle.monomials.specs.Mono.{Monomial, Divides, cmp_dp, unit}
 use Rattle.polys.specs.declared.term.Term.{Term}
-use Rattle.polys.specs.Terms.{EachMono, IsAffine, IsMonic, IsPoly}
+use Rattle.polys.specs.Terms.{IsAffine, IsMonic, IsPoly}
 use Rattle.polys.specs.Ideal.{InIdeal}
 use Rattle.polys.specs.Curve.{CurveData}
 use Rattle.polys.specs.Reduced.{IsReducedBasis, leads, lower_monos}
 use Rattle.ideal_laws.proofs.Ideals.{in_poly}
-use Rattle.ideal_laws.proofs.Unique.{contains_none}
 use Rattle.curve_model.specs.Laws.{IsFinite}
 use Rattle.graded_modules.specs.Bases.{AreApart}
 use Rattle.graded_modules.specs.Module.{IsLeadMultiple}
 use Rattle.graded_modules.specs.Vector.{lead_mono}
 use Rattle.homogenising.proofs.Spanning.{reduced_law}
 use Rattle.row_space.specs.Subspace.{Subspace}
-use Rattle.standard_monomials.proofs.Lists.{each_of}
 use Rattle.standard_monomials.proofs.Minimal.{no_divisor}
+use Rattle.basis_existence.proofs.Reducing.{of_each}
 use Rattle.digit_laws.specs.Digits.{AreCornersOf, numerators}
 use Rattle.digit_laws.specs.Laws.{SpaceIsIdeal}
 use Rattle.corner_basis.specs.Staircase.{AreTailed, HasDivisor, IsPassed, IsStaircase, IsTailed}
 use Rattle.corner_basis.proofs.Leads.{all_leads}
 use Rattle.corner_basis.proofs.Classes.{pos, In}
-
--- the monomials of a polynomial, one by one
-of_each : (R : Monomial → Type 0) (f : List Term) → EachMono R f → (m : Monomial) → Contains (map (λ u. u.mono) f) m → R m
-of_each R [] h m d = absurd (contains_none m d)
-of_each R (t ∷ f) h m d = each_of R t.mono (map (λ u. u.mono) f) h.0 (of_each R f h.1) m d
 
 -- the lead of such a member
 tail_lead : (l : Monomial) (f rest : List Term) → f ≡ record { coeff = 1; mono = l } ∷ rest → lead_mono f ≡ l

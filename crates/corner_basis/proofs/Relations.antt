@@ -33,7 +33,7 @@ use Rattle.digit_laws.proofs.Linear.{row-length}
 use Rattle.digit_laws.proofs.Spaces.{affine_poly}
 use Rattle.corner_basis.specs.Staircase.{AreRelations, IsStaircase, IsTailed}
 use Rattle.corner_basis.proofs.Numbers.{behind_zeros, difference_sum, numbers_of, one_number, sum_poly}
-use Rattle.corner_basis.proofs.Leads.{lead_stays}
+use Rattle.basis_existence.proofs.LeadsDecided.{lead_stays}
 use Rattle.corner_basis.proofs.Classes.{pos, P, W, laws, Span, RM, Scalars, In, up, down, k_multiple, k_row}
 
 pub all_of : {X : Type 0} (R : X → Type 0) (xs : List X) → ((x : X) → Contains xs x → R x) → All R xs

@@ -18,7 +18,8 @@ use Rattle.row_space.proofs.Members.{span_of, weighted_of}
 use Rattle.row_space.proofs.Weights.{through}
 use Rattle.digit_laws.specs.Digits.{AreCornersOf, IsOfDigits}
 use Rattle.corner_basis.specs.Staircase.{IsAmong, IsClassOf, IsStaircase}
-use Rattle.corner_basis.proofs.Classes.{pos, P, In, k_same, moved_in}
+use Rattle.digit_laws.proofs.Spaces.{moved_in}
+use Rattle.corner_basis.proofs.Classes.{pos, P, In, k_same}
 
 -- each pivot is one of the places
 pub rank_within : (s : Subspace) → IsReduced s → length s.basis ≤ s.width

@@ -21,8 +21,8 @@ use Rattle.standard_monomials.specs.Standard.{polynomial_of}
 use Rattle.standard_monomials.proofs.Powers.{affine_power}
 use Rattle.digit_laws.specs.Digits.{AreCornersOf, AreDigits, HasDigitsIn, IsIdealSpace, value}
 use Rattle.digit_laws.proofs.DigitLaws.{gens, value_poly}
-use Rattle.digit_laws.proofs.Spaces.{affine_poly}
-use Rattle.corner_basis.proofs.Classes.{pos, P, laws, RM, Scalars, moved_in}
+use Rattle.digit_laws.proofs.Spaces.{affine_poly, moved_in}
+use Rattle.corner_basis.proofs.Classes.{pos, P, laws, RM, Scalars}
 
 module _ (A : CurveData) (c : IsFinite A) (ms : List Monomial) (k : AreCornersOf A ms) (T : ℕ) where
   abbrev G : List (List Term)

@@ -2,23 +2,12 @@
 ghost use Rattle.std.specs.Prelude.{◌≡◌, ◌+◌, ◌<◌, ◌≤◌, [], length, OnOk};
 ghost use Rattle.monomials.specs.declared.mono.TheConstants.{MAX_VARIABLES, MAX_DEGREE};
 ghost use Rattle.monomials.specs.Mono.{total_degree};
-ghost use Rattle.standard_monomials.specs.Finding.{GainsMonomial, GainsMultiples};
+ghost use Rattle.standard_monomials.specs.Finding.{GainsMultiples};
 ghost use Rattle.standard_monomials.specs.Standard.{IsRising};
 
 use monomials::Mono;
+use standard_monomials::insert;
 use std::alloc::AllocError;
-
-// Puts the monomial at its place in the rising list, unless it is there.
-pub(crate) fn insert(queue: &mut Vec<Mono>, m: Mono) -> Result<(), AllocError>
-    requires { IsRising queue.old.items }
-    ensures gains { OnOk result (GainsMonomial m queue.old.items queue.new.items) }
-    ensures one { OnOk result (length queue.new.items ≤ length queue.old.items + 1) }
-{
-    if let Err(place) = queue.as_slice().binary_search_by(|w| Mono::cmp_dp(w, &m)) {
-        queue.insert(place, m)?;
-    }
-    Ok(())
-}
 
 // Puts the multiples of `m` by the variables into the rising list.
 pub(crate) fn insert_multiples(

@@ -1,7 +1,7 @@
 // Digits by hand: those made at a depth, and those made at each smaller one and extended.
 ghost use Rattle.std.specs.Prelude.{◌≤◌};
 ghost use Rattle.polys.specs.Curve.{Fit};
-ghost use Rattle.digit_make.specs.Making.{IsLiftedOf};
+ghost use Rattle.digit_plan.specs.Lifts.{IsLiftedOf};
 
 use crate::samples::{CUSP, Sample, UNIT, problem_of, sample_of};
 use digit_make::{extended, make};

@@ -3,7 +3,7 @@ ghost use Rattle.std.specs.Prelude.{◌≡◌, IfOk};
 ghost use Rattle.polys.specs.Curve.{Fit};
 ghost use Rattle.problem.specs.Problem.{HasFitPolynomials};
 ghost use Rattle.jacobian_pick.specs.Choice.{curve_of_lifted};
-ghost use Rattle.digit_make.specs.Making.{IsLiftedOf};
+ghost use Rattle.digit_plan.specs.Lifts.{IsLiftedOf};
 
 use jacobian_pick::pick;
 use lift_colon::Lifted;

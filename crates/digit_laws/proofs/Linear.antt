@@ -1,12 +1,12 @@
 -- Combinations by the entries of rows.
-use Rattle.std.proofs.Common.{◌≡◌, ℕ, suc, ◌+◌, ◌*◌, ◌%◌, ◌<◌, List, [], ◌∷◌, length, map, get_or, refl, sym, ap, ◌∙◌, subst, arith}
+use Rattle.std.proofs.Common.{◌≡◌, ℕ, suc, ◌+◌, ◌-◌, ◌*◌, ◌%◌, ◌<◌, List, [], ◌∷◌, length, map, get_or, refl, sym, ap, ◌∙◌, subst, arith, mod-eq_of_lt}
 use Rattle.comm_ring.specs.Modules.{combine, combination}
 use Rattle.comm_ring.specs.Rows.{rows}
 use Rattle.comm_ring.proofs.Residues.{residues, mod_ring, mod_quote}
 use Rattle.comm_ring.proofs.Modules.{Module}
 use Rattle.comm_ring.proofs.Modules as Modules
 use Rattle.row_space.specs.Sums.{weighted}
-use Rattle.comm_ring.proofs.Rows.{row-entry}
+use Rattle.comm_ring.proofs.Rows.{row-entry, row_module}
 use Rattle.row_space.proofs.Members.{combination-entry}
 use Rattle.std.specs.List.{range_with_len}
 use Rattle.std.proofs.lemmas.List.{length-map}
@@ -15,6 +15,16 @@ use native.Mathlib.Nat.{mod-mod}
 
 pub row-length : (width : ℕ) (f : ℕ → ℕ) → length (map f (range_with_len 0 width)) ≡ width
 row-length width f = length-map (range_with_len 0 width) f ∙ length-range_with_len 0 width
+
+-- p - 1 times a row is its opposite
+pub opposite_row : (p width : ℕ) → 1 < p → (positive : 0 < p) → (y : List ℕ) → (rows p width).◌≋◌ ((rows p width).◌·◌ (p - 1) y) ((rows p width).opposite y)
+opposite_row p width high positive y = let R = row_module p positive width in R.trans (R.scale_cong {x = y} {x' = y} same (R.rfl y)) (Modules.opposite_is (residues p positive) R y)
+  where
+    same : (p - 1) % p ≡ ((p - 1 % p) % p) % p
+    same =
+        let one : 1 % p ≡ 1 = mod-eq_of_lt high in
+        let less : (p - 1) % p ≡ p - 1 = mod-eq_of_lt (omega arith) in
+        sym (ap (λ z. ((p - z) % p) % p) one ∙ ap (λ z. z % p) less)
 
 module _ (p : ℕ) (positive : 0 < p) (V : Module (residues p positive)) where
   open V use {carrier, ◌≋◌, ◌⊞◌, origin, ◌·◌}

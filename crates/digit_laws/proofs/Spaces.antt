@@ -314,7 +314,7 @@ module _ (A : CurveData) (c : IsFinite A) (ms : List Monomial) (k : AreCornersOf
         }
 
 -- the same rows and width, by other names
-moved_in : (p q n m : ℕ) (vs : List (List ℕ)) (row : List ℕ) → p ≡ q → n ≡ m → InSpan (rows p n) vs row → InSpan (rows q m) vs row
+pub moved_in : (p q n m : ℕ) (vs : List (List ℕ)) (row : List ℕ) → p ≡ q → n ≡ m → InSpan (rows p n) vs row → InSpan (rows q m) vs row
 moved_in p q n m vs row e f h = subst (λ z. InSpan (rows q z) vs row) f (subst (λ z. InSpan (rows z n) vs row) e h)
 
 module _ (A : CurveData) (c : IsFinite A) (ms : List Monomial) (k : AreCornersOf A ms) (T : ℕ) (space : Subspace) (fit : All (FitsIn space) space.basis) (i : IsIdealSpace A ms T space) where

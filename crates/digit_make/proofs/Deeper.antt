@@ -15,11 +15,12 @@ use Rattle.digit_space.specs.Model.{DigitData, IsDigitSpace, AreFirstDigits, Has
 use Rattle.digit_space.specs.declared.products.OuterRow.{OuterRow}
 use Rattle.digit_make.specs.Blocks.{AreKnown, HasBlocks, IsKnown}
 use Rattle.digit_make.specs.Making.{HasFirstBlocks}
-use Rattle.digit_make.specs.Planned.{curve_of}
-use Rattle.digit_make.specs.declared.plan.Plan.{Plan}
+use Rattle.digit_plan.specs.Planned.{curve_of}
+use Rattle.digit_plan.specs.declared.plan.Plan.{Plan}
 use Rattle.digit_make.proofs.Expansion.{IsSetting, variable_times}
-use Rattle.digit_make.proofs.Found.{each_push}
-use Rattle.digit_make.proofs.Settings.{setting_of, few_corners, nothing_known}
+use Rattle.digit_plan.proofs.Found.{each_push}
+use Rattle.digit_plan.proofs.Corners.{few_corners}
+use Rattle.digit_make.proofs.Settings.{setting_of, nothing_known}
 
 -- what the lemmas use of the digits
 pub setting_at : (g : DigitData) → IsDigitSpace g → IsSetting (data_of g.curve) g.basis

@@ -22,13 +22,14 @@ use Rattle.polys.specs.Ideal.{InIdeal, number_combination}
 use Rattle.polys.specs.Curve.{CurveData}
 use Rattle.polys.proofs.Affine.{poly_none, poly_mul, poly_multiple}
 use Rattle.polys.proofs.Sums.{add_assoc, add_comm, add_normal_right, mul-add, mul_assoc, mul_comm}
-use Rattle.polys.proofs.Units.{add_none, canonical_same, sub_self}
+use Rattle.polys.proofs.Units.{add_none, sub_self}
 use Rattle.polys.proofs.Weights.{mod_plus}
 use Rattle.ideal_laws.proofs.Ideals.{in_more, in_none}
 use Rattle.ideal_laws.proofs.Multiples.{multiple-mul, multiple_one, multiple_zero}
 use Rattle.curve_model.specs.Fraction.{denominator_power}
 use Rattle.row_space.specs.Echelon.{IsRow}
 use Rattle.standard_monomials.specs.Standard.{polynomial_of}
+use Rattle.standard_monomials.proofs.Minimal.{one_term}
 use Rattle.digit_laws.specs.Digits.{value, AreDigits}
 use Rattle.digit_laws.specs.Laws.{DigitsAreCoordinates, BlocksAreDepths}
 use Rattle.digit_make.specs.Blocks.{IsBlock}
@@ -51,9 +52,6 @@ zeros_combine : (p n : ℕ) (us : List (List Term)) → number_combination p (re
 zeros_combine p zero us = refl
 zeros_combine p (suc n) [] = refl
 zeros_combine p (suc n) (u ∷ us) = ap₂ (add p) (multiple_zero p u) (zeros_combine p n us)
-
-pub one_term : (p : ℕ) (m : Monomial) → 1 < p → normal p (polynomial_of m) ≡ polynomial_of m
-one_term p m l = canonical_same p (polynomial_of m) ((omega arith), l, tt, tt)
 
 -- one corner alone
 one_combines : (p : ℕ) → 1 < p → (ms : List Monomial) (i : ℕ) → i < length ms

@@ -10,7 +10,7 @@ use Rattle.std.proofs.lemmas.List.Elements.{All-get_or, Contains-get_or}
 use Rattle.prime_field.specs.Primes.{IsPrime}
 use Rattle.prime_field.proofs.Table.{positive_of_prime, above_one}
 use Rattle.monomials.specs.Mono.{Monomial, unit, cmp_dp}
-use Rattle.monomials.proofs.Order.{self_dp, same_dp, chain_up}
+use Rattle.monomials.proofs.Order.{same_dp, chain_up}
 use Rattle.polys.specs.declared.term.Term.{Term}
 use Rattle.polys.specs.Terms.{EachMono, IsAffine, IsCanonical, IsPoly, Under, coefficient, mul, multiple, one, put, sub}
 use Rattle.polys.specs.Ideal.{InIdeal, number_combination}
@@ -18,51 +18,20 @@ use Rattle.polys.specs.Curve.{CurveData}
 use Rattle.polys.proofs.Affine.{poly_sub, sevens_of}
 use Rattle.polys.proofs.Each.{every_add, every_more, every_multiple, every_under}
 use Rattle.polys.proofs.Units.{canonical_same, mul_one}
-use Rattle.ideal_laws.proofs.Coefficients.{coefficient_law}
 use Rattle.ideal_laws.proofs.Differences.{sub_swap}
 use Rattle.ideal_laws.proofs.Ideals.{in_multiple}
 use Rattle.row_space.specs.Echelon.{IsRow}
 use Rattle.standard_monomials.specs.Standard.{AreCorners, AreDistinct, polynomial_of}
 use Rattle.standard_monomials.proofs.Lists.{pairs_head, pairs_tail}
-use Rattle.standard_monomials.proofs.Sums.{sum_of, sum_within}
+use Rattle.standard_monomials.proofs.Sums.{sum_of, sum_within, at_itself, first_more, no_part}
 use Rattle.digit_laws.specs.Digits.{AreDigits, spread, value}
-use Rattle.digit_make.specs.declared.plan.Plan.{Plan}
+use Rattle.digit_plan.specs.declared.plan.Plan.{Plan}
 use Rattle.digit_make.specs.Blocks.{IsKnown}
-use Rattle.digit_make.specs.Planned.{IsPlan, curve_of}
+use Rattle.digit_plan.specs.Planned.{IsPlan, curve_of}
 use Rattle.digit_make.proofs.Expansion.{deep_enough}
 use Rattle.digit_make.proofs.Settings.{setting}
 
 -- ---- the coefficients of a sum of different monomials
-
-at_itself : (m : Monomial) → coefficient (polynomial_of m) m ≡ 1
-at_itself m = ap (λ r. cond (is_eq r) 1 0 + 0) (self_dp m)
-
-at_other : (w m : Monomial) → w ≢ m → coefficient (polynomial_of w) m ≡ 0
-at_other w m d = go (cmp_dp w m) refl
-  where
-    go : (r : Ordering) → cmp_dp w m ≡ r → cond (is_eq r) 1 0 + 0 ≡ 0
-    go Less e = refl
-    go Greater e = refl
-    go Equal e = absurd (d (same_dp w m e))
-
-first_more : (p c : ℕ) (cs : List ℕ) (w : Monomial) (ms : List Monomial) (m : Monomial)
-    → coefficient (sum_of p (c ∷ cs) (w ∷ ms)) m ≡ ((c * coefficient (polynomial_of w) m) % p + coefficient (sum_of p cs ms) m) % p
-first_more p c cs w ms m =
-    coefficient_law.sum p (multiple p c (polynomial_of w)) (sum_of p cs ms) m
-    ∙ ap (λ k. (k + coefficient (sum_of p cs ms) m) % p) (coefficient_law.multiple p c (polynomial_of w) m)
-
-no_part : (p c : ℕ) (cs : List ℕ) (w : Monomial) (ms : List Monomial) (m : Monomial) → w ≢ m
-    → coefficient (sum_of p (c ∷ cs) (w ∷ ms)) m ≡ coefficient (sum_of p cs ms) m % p
-no_part p c cs w ms m d =
-    first_more p c cs w ms m ∙ ap (λ k. ((c * k) % p + coefficient (sum_of p cs ms) m) % p) (at_other w m d)
-    ∙ ap (λ k. (k % p + coefficient (sum_of p cs ms) m) % p) none ∙ ap (λ k. (k + coefficient (sum_of p cs ms) m) % p) (zero-mod p)
-    ∙ ap (λ k. k % p) whole
-  where
-    none : c * 0 ≡ 0
-    none = omega arith
-
-    whole : 0 + coefficient (sum_of p cs ms) m ≡ coefficient (sum_of p cs ms) m
-    whole = omega arith
 
 -- a monomial that does not occur has the coefficient 0
 absent : (f : List Term) (m : Monomial) → EachMono (λ w. w ≢ m) f → coefficient f m ≡ 0

@@ -1,10 +1,6 @@
 mod Expansion
 mod Settings
 mod Steps
-mod Found
-mod Playing
-mod Parents
-mod Leads
 mod Made
 mod Growth
 mod First

@@ -1,34 +1,63 @@
 -- From a plan and its rows to digits.
-use Rattle.std.proofs.Common.{◌≡◌, ℕ, suc, ◌+◌, ◌-◌, ◌*◌, ◌<◌, ◌≤◌, List, [], ◌++◌, length, get_or, replicate, sym, ap, ◌∙◌, subst, arith}
-use Rattle.std.specs.List.{All, Contains}
-use Rattle.std.proofs.lemmas.List.{get_or-replicate, length-replicate}
+use Rattle.std.proofs.Common.{◌≡◌, ℕ, suc, ◌+◌, ◌-◌, ◌*◌, ◌<◌, ◌≤◌, List, [], ◌∷◌, ◌++◌, length, get_or, take, drop, replicate, sym, ap, ap₂, ◌∙◌, subst, arith}
+use Rattle.std.specs.declared.cmp.Ordering.{Ordering}
+use Rattle.std.specs.declared.cmp.Ordering.TheVariants.{Less, Equal, Greater}
+use Rattle.std.specs.Ordering.{nat_cmp, MatchOrdering}
+use Rattle.std.specs.Cmp.{ranks}
+use Rattle.std.specs.List.{All}
+use Rattle.std.proofs.lemmas.List.{ext_get_or, get_or-drop, get_or-replicate, get_or_append_left, get_or_default, get_or_push, length-drop, length-replicate, length-take-le, length_push, take-append-drop}
 use Rattle.std.proofs.lemmas.List.Elements.{All-get_or}
 use Rattle.std.proofs.Math.Nat.{le_antisymm, le_of_mul-le-mul_left, mul-le-mul_left}
-use Rattle.prime_field.specs.Primes.{IsPrime}
 use Rattle.prime_field.proofs.Table.{above_one}
 use Rattle.monomials.specs.Mono.{Monomial, unit, times, variable}
-use Rattle.polys.specs.declared.curve.Curve.{Curve}
 use Rattle.polys.specs.Terms.{IsAffine}
-use Rattle.polys.specs.Poly.{terms_of}
-use Rattle.polys.specs.Curve.{CurveData, Fit, data_of}
 use Rattle.standard_monomials.specs.Standard.{polynomial_of}
-use Rattle.lift_colon.specs.Lifted.{LiftedData}
-use Rattle.digit_laws.specs.Digits.{AreCornersOf, AreDigits}
+use Rattle.digit_laws.specs.Digits.{AreDigits}
 use Rattle.digit_space.specs.Model.{DigitData, HasProducts, HasOuterRows, IsProduct, IsDigitsOf, times_variable, corner}
 use Rattle.digit_space.specs.declared.products.OuterRow.{OuterRow}
 use Rattle.digit_space.specs.declared.products.Product.{Product}
 use Rattle.digit_space.specs.declared.products.Product.TheVariants.{Corner, Border}
-use Rattle.digit_make.specs.declared.plan.Plan.{Plan}
+use Rattle.digit_plan.specs.declared.plan.Plan.{Plan}
 use Rattle.digit_make.specs.Blocks.{AreKnown, IsKnown}
-use Rattle.digit_make.specs.Making.{AreOuter, AreTrimmed, IsLiftedOf, curve_of_lifted}
-use Rattle.digit_make.specs.Planned.{AreProductsIn, AreRulesIn, IsPlan, IsFoundIn, NamesOnly, curve_of}
-use Rattle.digit_make.specs.Playing.{AreRising}
+use Rattle.digit_make.specs.Making.{AreOuter, AreTrimmed}
+use Rattle.digit_plan.specs.Planned.{IsPlan, IsFoundIn, curve_of}
 use Rattle.digit_make.proofs.Expansion.{variable_times}
-use Rattle.digit_make.proofs.Settings.{setting, few_corners, nothing_known}
+use Rattle.digit_make.proofs.Settings.{setting, nothing_known}
 
--- the curve of the bases
-pub one_curve : (c : Curve) (l : LiftedData) → IsLiftedOf c l → curve_of_lifted l ≡ data_of c
-one_curve c l h i = record { prime = h.prime i; variables = h.variables i; ideal = terms_of (h.ideal i); denominator = (h.denominator i).terms }
+-- where a row is 0 from an end on, what stands before it has the row with zeros behind
+pub zeros_behind : (end : ℕ) (row short : List ℕ) → end ≤ length row → ((i : ℕ) → end ≤ i → i < length row → get_or row i 0 ≡ 0) → short ≡ take end row
+    → short ++ replicate (length row - length short) 0 ≡ row
+zeros_behind end row short l h e =
+    ap (λ n. short ++ replicate (length row - n) 0) long ∙ ap₂ (λ a b. a ++ b) e (sym rest) ∙ take-append-drop end row
+  where
+    long : length short ≡ end
+    long = ap length e ∙ length-take-le end row l
+
+    rest : drop end row ≡ replicate (length row - end) 0
+    rest =
+        ext_get_or 0 (drop end row) (replicate (length row - end) 0) (length-drop end row ∙ sym (length-replicate (length row - end) 0))
+        (λ i k. let short : i < length row - end = (let w = length-drop end row in omega arith) in
+        get_or-drop end row i 0 ∙ h (end + i) (omega arith) (omega arith) ∙ sym (get_or-replicate (length row - end) i 0 0 short))
+
+-- a trimmed row more
+pub rows_push : (wide : ℕ) (rows short : List (List ℕ)) (row : List ℕ) (j : ℕ) → j < length rows → length short ≡ j
+    → ((i : ℕ) (d : List ℕ) → i < length short → (length (get_or rows i d) ≡ wide) × (length (get_or short i d) ≤ wide) × (get_or short i d ++ replicate (wide - length (get_or short i d)) 0 ≡ get_or rows i d))
+    → (length (get_or rows j []) ≡ wide) × (length row ≤ wide) × (row ++ replicate (wide - length row) 0 ≡ get_or rows j [])
+    → (i : ℕ) (d : List ℕ) → i < length (short ++ row ∷ [])
+    → (length (get_or rows i d) ≡ wide) × (length (get_or (short ++ row ∷ []) i d) ≤ wide) × (get_or (short ++ row ∷ []) i d ++ replicate (wide - length (get_or (short ++ row ∷ []) i d)) 0 ≡ get_or rows i d)
+rows_push wide rows short row j l e h k i d m = go (nat_cmp i (length short)) (ranks i (length short))
+  where
+    T : List ℕ → List ℕ → Type 0
+    T a b = (length b ≡ wide) × (length a ≤ wide) × (a ++ replicate (wide - length a) 0 ≡ b)
+
+    go : (r : Ordering) → MatchOrdering r (i < length short) (i ≡ length short) (length short < i)
+        → (length (get_or rows i d) ≡ wide) × (length (get_or (short ++ row ∷ []) i d) ≤ wide) × (get_or (short ++ row ∷ []) i d ++ replicate (wide - length (get_or (short ++ row ∷ []) i d)) 0 ≡ get_or rows i d)
+    go Less q = subst (λ z. (length (get_or rows i d) ≡ wide) × (length z ≤ wide) × (z ++ replicate (wide - length z) 0 ≡ get_or rows i d)) (sym (get_or_append_left short (row ∷ []) d i q)) (h i d q)
+    go Equal q =
+        let at : get_or rows j [] ≡ get_or rows i d = get_or_default rows j [] d l ∙ ap (λ z. get_or rows z d) (sym (q ∙ e)) in
+        subst (λ z. (length (get_or rows i d) ≡ wide) × (length z ≤ wide) × (z ++ replicate (wide - length z) 0 ≡ get_or rows i d)) (sym (get_or_push short row d i (sym q)))
+        (subst (λ z. (length z ≡ wide) × (length row ≤ wide) × (row ++ replicate (wide - length row) 0 ≡ z)) at k)
+    go Greater q = absurd (omega (arith, length_push short row))
 
 module _ (plan : Plan) (h : IsPlan plan) where
   abbrev pub seen : ℕ → DigitData
@@ -93,30 +122,3 @@ module _ (plan : Plan) (h : IsPlan plan) where
     each = λ j d l. subst (IsKnown (curve_of plan) plan.corners (get_or monomials j unit)) (sym (ap (λ z. get_or z j d) e ∙ get_or-replicate n j [] d (let w = q in omega arith)))
         (nothing_known (curve_of plan) plan.corners (setting plan h) (get_or monomials j unit) (All-get_or (IsAffine (curve_of plan).variables) monomials j unit l a));
   }
-
--- a plan by its parts
-pub plan_by : (c : Curve) (l : LiftedData) (plan : Plan) (corners : List Monomial) → IsLiftedOf c l → IsPrime l.prime → l.prime ≤ 32003 → Fit c → plan.curve.value ≡ c → AreCornersOf (data_of c) corners
-    → plan.corners ≡ corners → 0 < length corners → All (IsAffine l.variables) plan.border → All (IsAffine l.variables) plan.outer
-    → AreProductsIn l.variables plan.corners plan.border plan.products → AreRulesIn (curve_of_lifted l) plan.corners plan.border plan.outer plan.border plan.border_rules
-    → AreRulesIn (curve_of_lifted l) plan.corners plan.border plan.outer plan.outer plan.outer_rules
-    → AreRising plan.corners plan.border plan.outer → ((m : Monomial) → Contains plan.border m → Contains plan.corners m → ⊥) → All (NamesOnly plan.corners plan.border []) plan.border_rules → All (NamesOnly plan.corners plan.border plan.outer) plan.outer_rules → IsPlan plan
-plan_by c l plan corners h prime small fit e k ce some border outer products border_rules outer_rules rising outside inner further = record {
-  prime = subst IsPrime (ap (λ (A : CurveData). A.prime) same) prime;
-  small = subst (λ z. z ≤ 32003) (ap (λ (A : CurveData). A.prime) same) small;
-  fit = subst Fit (sym e) fit;
-  corners = subst (λ z. AreCornersOf (data_of plan.curve.value) z) (sym ce) (subst (λ z. AreCornersOf (data_of z) corners) (sym e) k);
-  some = subst (λ z. 0 < length z) (sym ce) some;
-  few = subst (λ z. length z ≤ 256) (sym ce) (few_corners c (subst IsPrime h.prime prime) fit corners k);
-  border = subst (λ (A : CurveData). All (IsAffine A.variables) plan.border) same border;
-  outer = subst (λ (A : CurveData). All (IsAffine A.variables) plan.outer) same outer;
-  products = subst (λ (A : CurveData). AreProductsIn A.variables plan.corners plan.border plan.products) same products;
-  border_rules = subst (λ A. AreRulesIn A plan.corners plan.border plan.outer plan.border plan.border_rules) same border_rules;
-  outer_rules = subst (λ A. AreRulesIn A plan.corners plan.border plan.outer plan.outer plan.outer_rules) same outer_rules;
-  rising = rising;
-  outside = outside;
-  inner = inner;
-  further = further;
-}
-  where
-    same : curve_of_lifted l ≡ curve_of plan
-    same = one_curve c l h ∙ ap data_of (sym e)

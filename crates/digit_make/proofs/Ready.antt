@@ -5,24 +5,30 @@ use Rattle.std.specs.declared.cmp.Ordering.TheVariants.{Less, Equal, Greater}
 use Rattle.std.specs.Ordering.{nat_cmp, MatchOrdering}
 use Rattle.std.specs.Cmp.{ranks}
 use Rattle.std.specs.List.{All, Contains}
-use Rattle.std.proofs.lemmas.List.{get_or-drop, get_or-take}
+use Rattle.std.proofs.lemmas.List.{get_or-drop, get_or-take, get_or_default}
 use Rattle.std.proofs.lemmas.List.Elements.{All-get_or, All-weaker, Contains-get_or}
 use Rattle.std.proofs.Math.Nat.{mul-le-mul_left}
 use Rattle.monomials.specs.Mono.{Monomial, unit, times, variable, cmp_dp}
 use Rattle.monomials.proofs.Order.{cmp_dp-times, same_dp}
 use Rattle.polys.specs.Terms.{IsAffine}
-use Rattle.digit_make.specs.declared.plan.Place.{Place}
-use Rattle.digit_make.specs.declared.plan.Place.TheVariants.{Corner, Border, Outer}
-use Rattle.digit_make.specs.declared.plan.Plan.{Plan}
-use Rattle.digit_make.specs.declared.plan.Rows.{Rows}
-use Rattle.digit_make.specs.declared.plan.Rule.{Rule}
-use Rattle.digit_make.specs.declared.plan.Rule.TheVariants.{Lead, Multiple}
-use Rattle.digit_make.specs.declared.plan.Share.{Share}
+use Rattle.standard_monomials.proofs.Steps.{less_next}
+use Rattle.digit_plan.specs.declared.plan.Place.{Place}
+use Rattle.digit_plan.specs.declared.plan.Place.TheVariants.{Corner, Border, Outer}
+use Rattle.digit_plan.specs.declared.plan.Plan.{Plan}
+use Rattle.digit_make.specs.declared.rows.Rows.{Rows}
+use Rattle.digit_plan.specs.declared.plan.Rule.{Rule}
+use Rattle.digit_plan.specs.declared.plan.Rule.TheVariants.{Lead, Multiple}
+use Rattle.digit_plan.specs.declared.plan.Share.{Share}
 use Rattle.digit_make.specs.Blocks.{AreGrown, HasBlocks, IsKnown}
-use Rattle.digit_make.specs.Planned.{AreInner, AreRowsOf, AreShares, HasBlock, HasBlockAt, HaveFactorRows, HaveProductRows, IsPlace, IsPlaceIn, IsPlan, IsReadyFor, IsRule, NamesOnly, curve_of, monomial_at}
+use Rattle.digit_plan.specs.Planned.{AreInner, AreShares, IsPlace, IsPlaceIn, IsPlan, IsRule, NamesOnly, curve_of, monomial_at}
+use Rattle.digit_make.specs.Rows.{AreRowsOf, HasBlock, HasBlockAt, HaveFactorRows, HaveProductRows, IsReadyFor}
+use Rattle.digit_plan.proofs.Found.{earlier}
 use Rattle.digit_make.proofs.First.{first_low}
-use Rattle.digit_make.proofs.Playing.{earlier, less_next}
 use Rattle.digit_make.proofs.Steps.{affine_at}
+
+-- a monomial as it is read
+pub mono_read : (monomials list : List Monomial) (j : ℕ) (m : Monomial) → list ≡ monomials → j < length monomials → m ≡ get_or list j m → m ≡ get_or monomials j unit
+mono_read monomials list j m e l q = q ∙ ap (λ z. get_or z j m) e ∙ get_or_default monomials j m unit l
 
 -- a corner has its block always
 pub inner_made : (plan : Plan) (rows : Rows) (t : ℕ) (tail : List Share) → AreInner plan.corners tail → All (λ s. HasBlockAt plan rows t s.place) tail

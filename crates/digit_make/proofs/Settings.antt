@@ -1,34 +1,22 @@
 -- A plan has the curve and the corners that the lemmas on blocks ask for.
-use Rattle.std.proofs.Common.{◌≡◌, ℕ, suc, ◌*◌, ◌<◌, ◌≤◌, ◌++◌, List, [], ◌∷◌, length, map, refl, ap, sym, ◌∙◌, subst, arith}
-use Rattle.std.specs.List.{All}
+use Rattle.std.proofs.Common.{◌≡◌, ℕ, suc, ◌*◌, ◌++◌, List, [], ◌∷◌, length, map, refl, ap, sym, ◌∙◌, subst, arith}
 use Rattle.std.proofs.lemmas.List.{length-map}
-use Rattle.std.proofs.lemmas.List.Elements.{All-weaker, All-contains_itself}
-use Rattle.std.specs.List.{Contains}
-use Rattle.prime_field.specs.Primes.{IsPrime}
 use Rattle.prime_field.proofs.Table.{above_one}
-use Rattle.monomials.specs.Mono.{Monomial, times, variable}
-use Rattle.monomials.proofs.Factors.{divides_law}
-use Rattle.polys.specs.declared.curve.Curve.{Curve}
+use Rattle.monomials.specs.Mono.{Monomial}
 use Rattle.polys.specs.Terms.{IsAffine, add, mul}
 use Rattle.polys.specs.Ideal.{number_combination}
-use Rattle.polys.specs.Curve.{CurveData, Fit, data_of}
+use Rattle.polys.specs.Curve.{CurveData}
 use Rattle.curve_model.specs.Laws.{IsFinite}
 use Rattle.curve_laws.proofs.FitLaws.{fit_law}
 use Rattle.standard_monomials.specs.Standard.{polynomial_of}
-use Rattle.standard_monomials.proofs.Powers.{length_power}
-use Rattle.standard_monomials.proofs.Search.{found_law}
-use Rattle.standard_monomials.proofs.Unique.{unique_law}
 use Rattle.digit_laws.specs.Digits.{AreCornersOf, AreDigits, places, spread, value}
 use Rattle.digit_laws.proofs.DigitLaws.{digit_law, span, times_polys, place_polys, appended, pushed, numbers_poly}
 use Rattle.digit_laws.proofs.Blocks.{block_law}
 use Rattle.digit_make.specs.Blocks.{IsKnown}
-use Rattle.digit_make.specs.declared.plan.Plan.{Plan}
-use Rattle.digit_make.specs.Planned.{IsPlan, curve_of}
-use Rattle.digit_make.specs.Playing.{AreClosed}
+use Rattle.digit_plan.specs.declared.plan.Plan.{Plan}
+use Rattle.digit_plan.specs.Planned.{IsPlan, curve_of}
+use Rattle.digit_plan.proofs.Corners.{corners_affine}
 use Rattle.digit_make.proofs.Expansion.{IsSetting}
-
-corners_affine : (A : CurveData) (ms : List Monomial) → AreCornersOf A ms → All (IsAffine A.variables) ms
-corners_affine A ms k = All-weaker (Contains ms) (IsAffine A.variables) (λ m c. ((k.all.exact m).0 c).affine) ms (All-contains_itself ms)
 
 split : (A : CurveData) (c : IsFinite A) (ms : List Monomial) (k : AreCornersOf A ms) (T : ℕ) (a b : List ℕ) → length a ≡ length ms
     → value A ms (suc T) (a ++ b) ≡ add A.prime (number_combination A.prime a (map polynomial_of ms)) (mul A.prime A.denominator (value A ms T b))
@@ -51,14 +39,6 @@ setting_of A c ms k = record {
 pub setting : (plan : Plan) → IsPlan plan → IsSetting (curve_of plan) plan.corners
 setting plan h = setting_of (curve_of plan) (fit_law plan.curve.value h.prime h.fit) plan.corners h.corners
 
--- the corners are as many as the dimension of a fit curve
-pub few_corners : (c : Curve) → IsPrime c.prime → Fit c → (ms : List Monomial) → AreCornersOf (data_of c) ms → length ms ≤ 256
-few_corners c prime fit ms k =
-    let A = data_of c in
-    let d = ((setting_of (data_of c) (fit_law c prime fit) ms k).laws 0).dimension in
-    let n = fit.finite.1 in
-    subst (λ z. z ≤ 256) (unique_law.one A.prime A.variables (A.denominator ∷ A.ideal) fit.finite.0 (length ms) fit.finite.2 d) n
-
 -- no digits are those at the depth 0
 pub nothing_known : (A : CurveData) (ms : List Monomial) → IsSetting A ms → (m : Monomial) → IsAffine A.variables m → IsKnown A ms m []
 nothing_known A ms s m f =
@@ -68,15 +48,3 @@ nothing_known A ms s m f =
     none_from : (row : List ℕ) → length row ≡ 0 → row ≡ []
     none_from [] l = refl
     none_from (x ∷ row) l = absurd (omega arith)
-
--- what divides a corner is one
-pub closed_of : (A : CurveData) (ms : List Monomial) → AreCornersOf A ms → A.variables ≤ 6 → length ms ≤ 256 → AreClosed A.variables ms
-closed_of A ms k six few = record { rising = k.rising; affine = corners_affine A ms k; few = few; closed = closed }
-  where
-    closed : (m : Monomial) (v : ℕ) → IsAffine A.variables m → v < A.variables → Contains ms (times m (variable v)) → Contains ms m
-    closed m v a l c =
-        let s = (k.all.exact (times m (variable v))).0 c in
-        let seven : length m.exponents ≡ length (times m (variable v)).exponents = a.seven ∙ sym s.affine.seven in
-        (k.all.exact m).1
-        (found_law.divisor A.variables k.basis m (times m (variable v)) a
-        ((divides_law m (times m (variable v)) seven).1 (variable v, a.seven ∙ sym (length_power 7 v 1), refl, refl)) s)

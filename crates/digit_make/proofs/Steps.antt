@@ -23,12 +23,13 @@ use Rattle.row_space.specs.Echelon.{IsRow}
 use Rattle.standard_monomials.specs.Standard.{polynomial_of}
 use Rattle.digit_laws.specs.Digits.{AreDigits, value}
 use Rattle.standard_monomials.proofs.Powers.{affine_power}
-use Rattle.digit_make.specs.declared.plan.Place.{Place}
-use Rattle.digit_make.specs.declared.plan.Place.TheVariants.{Corner, Border, Outer}
-use Rattle.digit_make.specs.declared.plan.Share.{Share}
-use Rattle.digit_make.specs.declared.plan.Plan.{Plan}
+use Rattle.digit_plan.specs.declared.plan.Place.{Place}
+use Rattle.digit_plan.specs.declared.plan.Place.TheVariants.{Corner, Border, Outer}
+use Rattle.digit_plan.specs.declared.plan.Share.{Share}
+use Rattle.digit_plan.specs.declared.plan.Plan.{Plan}
 use Rattle.digit_make.specs.Blocks.{AreKnown, IsBlock, IsKnown}
-use Rattle.digit_make.specs.Planned.{HasBlock, IsPlan, IsBlockRow, IsLeadSum, IsPlace, Adds, AreShares, corners_multiple, curve_of, monomial_at, sum_of, terms_at}
+use Rattle.digit_plan.specs.Planned.{IsPlan, IsLeadSum, IsPlace, AreShares, curve_of, monomial_at, sum_of, terms_at}
+use Rattle.digit_make.specs.Rows.{HasBlock, IsBlockRow, Adds, corners_multiple}
 use Rattle.digit_make.proofs.Expansion.{alike, deep_enough, down, more, none, of_value, pos, plus_row, plus_corner, product_more, product_step, term_of, up, up_first, variable_times, zeros_fit}
 use Rattle.digit_make.proofs.Settings.{setting}
 

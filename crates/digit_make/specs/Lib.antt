@@ -1,4 +1,3 @@
 pub mod Blocks
-pub mod Playing
-pub mod Planned
+pub mod Rows
 pub mod Making

@@ -5,12 +5,14 @@ ghost use Rattle.monomials.specs.Mono.{unit, times, variable};
 ghost use Rattle.polys.specs.Terms.{IsAffine};
 ghost use Rattle.standard_monomials.specs.Standard.{polynomial_of};
 ghost use Rattle.digit_make.specs.Blocks.{IsBlock, IsKnown};
-ghost use Rattle.digit_make.specs.Planned.{AreInner, HasBlock, HasBlockAt, HaveFactorRows, HaveProductRows, IsPlaceIn, IsReadyFor, IsPlan, AreRowsOf, AreShares, IsPlace, IsRule, IsLeadSum, IsBlockRow, Adds, corners_multiple, curve_of, monomial_at, sum_of};
+ghost use Rattle.digit_plan.specs.Planned.{AreInner, IsPlaceIn, IsPlan, AreShares, IsPlace, IsRule, IsLeadSum, curve_of, monomial_at, sum_of};
+ghost use Rattle.digit_make.specs.Rows.{HasBlock, HasBlockAt, HaveFactorRows, HaveProductRows, IsReadyFor, AreRowsOf, IsBlockRow, Adds, corners_multiple};
 
-use crate::plan::{Place, Plan, Rows, Rule, Share};
+use crate::rows::Rows;
+use digit_plan::{Place, Plan, Rule, Share};
 use digit_space::Product;
 use lane_rows::axpy;
-use lists::{List, NoMemory};
+use lists::NoMemory;
 use monomials::Mono;
 use std::alloc::Global;
 

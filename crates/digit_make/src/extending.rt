@@ -5,13 +5,14 @@ ghost use Rattle.polys.specs.Terms.{IsAffine};
 ghost use Rattle.digit_space.specs.Model.{AreFirstDigits};
 ghost use Rattle.standard_monomials.specs.Standard.{polynomial_of};
 ghost use Rattle.digit_make.specs.Blocks.{AreKnown, HasBlocks, HaveBlocks, IsKnown};
-ghost use Rattle.digit_make.specs.Making.{HasFirstBlocks, IsLiftedOf};
+ghost use Rattle.digit_plan.specs.Lifts.{IsLiftedOf};
+ghost use Rattle.digit_make.specs.Making.{HasFirstBlocks};
 
 use crate::blocks::zero_block;
 use crate::growing::longer;
-use crate::making::{digits_from, no_digits, plan_of};
-use crate::plan::Rows;
-use crate::planning::{find, quotient};
+use crate::making::{digits_from, no_digits};
+use crate::rows::Rows;
+use digit_plan::{find, plan_of, quotient};
 use digit_space::Digits;
 use lift_colon::Lifted;
 use lists::{List, NoMemory};

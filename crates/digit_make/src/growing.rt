@@ -1,10 +1,12 @@
 // Rows that grow block by block.
 ghost use Rattle.std.specs.Prelude.{◌≡◌, ◌++◌, ◌+◌, ◌*◌, ◌-◌, ◌<◌, ◌≤◌, [], length, slice_index_or, slice_set, IfOk, OnOk};
 ghost use Rattle.digit_make.specs.Blocks.{AreGrown, AreLong, HaveBlocks};
-ghost use Rattle.digit_make.specs.Planned.{IsPlan, AreRowsOf};
+ghost use Rattle.digit_plan.specs.Planned.{IsPlan};
+ghost use Rattle.digit_make.specs.Rows.{AreRowsOf};
 
 use crate::blocks::block_of;
-use crate::plan::{Plan, Rows};
+use crate::rows::Rows;
+use digit_plan::Plan;
 use lists::{List, NoMemory};
 use std::alloc::Global;
 use std::mem;

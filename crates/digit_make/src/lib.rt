@@ -5,9 +5,7 @@ mod blocks;
 mod extending;
 mod growing;
 mod making;
-mod plan;
-mod planning;
-mod rules;
+mod rows;
 
 pub use extending::extended;
 pub use making::make;

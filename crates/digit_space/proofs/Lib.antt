@@ -1,6 +1,7 @@
+-- entries of sums of rows, as a loop adds them
+pub mod Entries
 -- for the program here alone
 mod Kept
-mod Entries
 mod BlockSums
 mod Added
 mod KeptRows

@@ -34,7 +34,7 @@ degree_next m v h =
     omega arith
 
 -- a monomial is less than its multiple by a variable
-less_next : (m : Monomial) (v : ℕ) → length m.exponents ≡ 7 → v < 7 → cmp_dp m (times m (variable v)) ≡ Less
+pub less_next : (m : Monomial) (v : ℕ) → length m.exponents ≡ 7 → v < 7 → cmp_dp m (times m (variable v)) ≡ Less
 less_next m v l h = go (cmp_dp m (times m (variable v))) refl
   where
     go : (r : Ordering) → cmp_dp m (times m (variable v)) ≡ r → cmp_dp m (times m (variable v)) ≡ Less

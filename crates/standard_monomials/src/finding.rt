@@ -1,5 +1,5 @@
 // The standard monomials of an ideal and their number, by its reduced basis.
-ghost use Rattle.std.specs.Prelude.{◌≡◌, ◌↔◌, ℕ, ◌<◌, ◌≤◌, ◌⊎◌, List, length, All, Contains, IsTrue, IfOk, OnOk};
+ghost use Rattle.std.specs.Prelude.{◌≡◌, ◌↔◌, ℕ, ◌+◌, ◌<◌, ◌≤◌, ◌⊎◌, List, length, All, Contains, IsTrue, IfOk, OnOk};
 ghost use Rattle.std.specs.Bool.{MatchBool};
 ghost use Rattle.monomials.specs.declared.mono.TheConstants.{MAX_VARIABLES, MAX_DEGREE};
 ghost use Rattle.monomials.specs.Mono.{Monomial, total_degree};
@@ -87,10 +87,14 @@ fn has_all_power_leads(variables: u32, basis: &[Poly]) -> bool
     true
 }
 
-// Puts the monomial at its place in the rising list, unless it is there.
-fn insert(found: &mut Vec<Mono>, m: Mono) -> Result<(), AllocError>
+/// Puts the monomial at its place in the rising list, unless it is there.
+///
+/// # Errors
+/// Want of memory.
+pub fn insert(found: &mut Vec<Mono>, m: Mono) -> Result<(), AllocError>
     requires { IsRising found.old.items }
-    ensures { OnOk result (GainsMonomial m found.old.items found.new.items) }
+    ensures gains { OnOk result (GainsMonomial m found.old.items found.new.items) }
+    ensures one { OnOk result (length found.new.items ≤ length found.old.items + 1) }
 {
     if let Err(place) = found.as_slice().binary_search_by(|w| Mono::cmp_dp(w, &m)) {
         found.insert(place, m)?;

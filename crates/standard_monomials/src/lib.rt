@@ -4,4 +4,4 @@
 mod finding;
 pub mod laws;
 
-pub use finding::{Dimension, Standard, dimension_modulo, standard_monomials};
+pub use finding::{Dimension, Standard, dimension_modulo, insert, standard_monomials};

@@ -10,7 +10,7 @@ loop-v-preserved c =
     let m = c.args.m in
     let v = c.loop-v.v in
     let mid = c.loop-v.queue.items in
-    let new = c.insert.new.queue.items in
+    let new = c.insert.new.found.items in
     let e : c.product.result ≡ times m (variable v) = c.product.ensures.value ∙ ap (times m) c.var.ensures.value in (
       more [] m v c.args.queue.now.items mid new c.requires.seven (omega arith) c.loop-v.invariant.0 (λ q. contains_none q.0 q.1)
           (subst (λ (x : Monomial). GainsMonomial x mid new) e c.in_ok-insert.ensures.gains),

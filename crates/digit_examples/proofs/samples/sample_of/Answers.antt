@@ -1,7 +1,7 @@
 use Rattle.std.proofs.Common.{◌≡◌, sym, subst, ◌∙◌}
 use Rattle.polys.specs.Curve.{Fit}
 use Rattle.jacobian_pick.specs.Choice.{curve_of_lifted}
-use Rattle.digit_make.specs.Making.{IsLiftedOf}
+use Rattle.digit_plan.specs.Lifts.{IsLiftedOf}
 use Rattle.digit_examples.proofs.samples.sample_of.Goals as goal
 
 pub returns-clause-lifted : goal.returns-clause-lifted

@@ -1,5 +1,6 @@
 use Rattle.std.proofs.Common.{◌≡◌, ◌∙◌, ◌∷◌, [], ap, sym, subst, get_or, ◌+◌, ◌%◌, ◌<◌, length, rules}
-use Rattle.digit_make.specs.Planned.{HasBlockAt, IsPlace, Adds, monomial_at}
+use Rattle.digit_plan.specs.Planned.{IsPlace, monomial_at}
+use Rattle.digit_make.specs.Rows.{HasBlockAt, Adds}
 use Rattle.digit_make.proofs.Steps.{read_made, read_residues, adds_read, adds_corner}
 use Rattle.digit_make.proofs.blocks.add_block.Goals as goal
 

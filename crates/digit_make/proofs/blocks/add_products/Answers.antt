@@ -1,5 +1,5 @@
 use Rattle.std.proofs.Common.{◌+◌, ◌<◌, length, get_or, take, arith, refl, sym, subst}
-use Rattle.digit_make.specs.Planned.{Adds, IsBlockRow, corners_multiple}
+use Rattle.digit_make.specs.Rows.{Adds, IsBlockRow, corners_multiple}
 use Rattle.digit_make.proofs.Steps.{products_start, products_step, products_skip, products_end}
 use Rattle.digit_make.proofs.blocks.add_products.Goals.{then-c-ne0, else-c-ne0}
 use Rattle.digit_make.proofs.blocks.add_products.Goals as goal

@@ -1,5 +1,5 @@
 use Rattle.std.proofs.Common.{take}
-use Rattle.digit_make.specs.Planned.{IsBlockRow, Adds, corners_multiple}
+use Rattle.digit_make.specs.Rows.{IsBlockRow, Adds, corners_multiple}
 use Rattle.digit_make.proofs.blocks.add_products.Given as goal
 
 abbrev pub invariant-loop-i : goal.invariant-loop-i

@@ -1,7 +1,7 @@
 use Rattle.std.proofs.Common.{get_or}
 use Rattle.std.proofs.lemmas.List.{get_or_default}
-use Rattle.digit_make.specs.declared.plan.Place.TheVariants.{Corner}
-use Rattle.digit_make.specs.declared.plan.Share.{Share}
+use Rattle.digit_plan.specs.declared.plan.Place.TheVariants.{Corner}
+use Rattle.digit_plan.specs.declared.plan.Share.{Share}
 use Rattle.digit_make.proofs.Steps.{nothing_added, shares_step, shares_end}
 use Rattle.digit_make.proofs.blocks.add_shares.Goals as goal
 

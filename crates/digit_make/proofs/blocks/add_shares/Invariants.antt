@@ -1,5 +1,6 @@
 use Rattle.std.proofs.Common.{take}
-use Rattle.digit_make.specs.Planned.{IsBlockRow, Adds, terms_at}
+use Rattle.digit_plan.specs.Planned.{terms_at}
+use Rattle.digit_make.specs.Rows.{IsBlockRow, Adds}
 use Rattle.digit_make.proofs.blocks.add_shares.Given as goal
 
 abbrev pub invariant-loop-k : goal.invariant-loop-k

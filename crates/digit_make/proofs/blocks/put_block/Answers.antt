@@ -1,7 +1,8 @@
 use Rattle.std.proofs.Common.{◌<◌, length, refl, sym, subst}
 use Rattle.digit_make.specs.Blocks.{IsKnown}
-use Rattle.digit_make.specs.Planned.{HasBlockAt, HaveProductRows, IsOutsidePlace, IsReadyFor, IsRule, curve_of, monomial_at}
-use Rattle.digit_make.proofs.Found.{mono_read}
+use Rattle.digit_plan.specs.Planned.{IsOutsidePlace, IsRule, curve_of, monomial_at}
+use Rattle.digit_make.specs.Rows.{HasBlockAt, HaveProductRows, IsReadyFor}
+use Rattle.digit_make.proofs.Ready.{mono_read}
 use Rattle.digit_make.proofs.Steps.{read_made, row_read}
 use Rattle.digit_make.proofs.blocks.put_block.Goals as goal
 

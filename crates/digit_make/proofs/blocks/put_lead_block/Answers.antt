@@ -1,7 +1,7 @@
 use Rattle.std.proofs.Common.{sym, subst, arith}
 use Rattle.polys.specs.Terms.{mul}
 use Rattle.digit_make.specs.Blocks.{IsBlock}
-use Rattle.digit_make.specs.Planned.{curve_of, sum_of}
+use Rattle.digit_plan.specs.Planned.{curve_of, sum_of}
 use Rattle.digit_make.proofs.Ready.{inner_made}
 use Rattle.digit_make.proofs.Steps.{lift_first, lift_later, lead_end}
 use Rattle.digit_make.proofs.blocks.put_lead_block.Goals.{then-t-gt0, else-t-gt0}

@@ -1,5 +1,6 @@
 use Rattle.std.proofs.Common.{◌+◌, ◌-◌, ◌*◌, take, drop, arith, ap, sym, subst}
-use Rattle.digit_make.specs.Planned.{IsBlockRow, curve_of}
+use Rattle.digit_plan.specs.Planned.{curve_of}
+use Rattle.digit_make.specs.Rows.{IsBlockRow}
 use Rattle.digit_make.proofs.Expansion.{zeros_fit}
 use Rattle.digit_make.proofs.Ready.{factors_made}
 use Rattle.digit_make.proofs.Settings.{setting}

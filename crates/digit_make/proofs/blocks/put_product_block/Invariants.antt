@@ -1,4 +1,4 @@
-use Rattle.digit_make.specs.Planned.{IsBlockRow}
+use Rattle.digit_make.specs.Rows.{IsBlockRow}
 use Rattle.digit_make.proofs.Steps.{IsTail}
 use Rattle.digit_make.proofs.blocks.put_product_block.Given as goal
 

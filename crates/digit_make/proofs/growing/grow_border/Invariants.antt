@@ -1,6 +1,6 @@
 use Rattle.std.proofs.Common.{◌≡◌, length}
 use Rattle.digit_make.specs.Blocks.{AreGrown}
-use Rattle.digit_make.specs.Planned.{AreRowsOf}
+use Rattle.digit_make.specs.Rows.{AreRowsOf}
 use Rattle.digit_make.proofs.growing.grow_border.Given as goal
 
 abbrev pub invariant-loop-j : goal.invariant-loop-j

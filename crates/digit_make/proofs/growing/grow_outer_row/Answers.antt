@@ -1,5 +1,5 @@
 use Rattle.std.proofs.Common.{◌+◌, ◌<◌, length, ap, sym, ◌∙◌, subst}
-use Rattle.digit_make.proofs.Found.{mono_read}
+use Rattle.digit_make.proofs.Ready.{mono_read}
 use Rattle.digit_make.proofs.Growth.{grown_row}
 use Rattle.digit_make.proofs.Ready.{outer_ready}
 use Rattle.digit_make.proofs.Steps.{grown_list}

@@ -1,7 +1,7 @@
 use Rattle.std.proofs.Common.{◌≡◌, ℕ, ◌+◌, ◌-◌, ◌<◌, ◌≤◌, ◌++◌, [], List, length, get_or, replicate, sym, ap, ◌∙◌, subst}
 use Rattle.std.proofs.lemmas.List.{length_push, get_or_default}
 use Rattle.std.proofs.lemmas.List.Elements.{All-get_or}
-use Rattle.digit_make.proofs.Found.{rows_push}
+use Rattle.digit_make.proofs.Made.{rows_push}
 use Rattle.digit_make.proofs.making.border_rows.Goals as goal
 
 pub loop-j-preserved : goal.loop-j-preserved

@@ -3,7 +3,7 @@ use Rattle.std.proofs.lemmas.List.{length_push, get_or_default}
 use Rattle.std.proofs.lemmas.List.Elements.{All-get_or}
 use Rattle.monomials.specs.Mono.{unit}
 use Rattle.digit_space.specs.declared.products.OuterRow.{OuterRow}
-use Rattle.digit_make.proofs.Found.{each_push}
+use Rattle.digit_plan.proofs.Found.{each_push}
 use Rattle.digit_make.proofs.making.outer_rows.Goals as goal
 
 pub loop-j-preserved : goal.loop-j-preserved

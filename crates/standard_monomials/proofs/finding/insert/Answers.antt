@@ -7,8 +7,8 @@ use Rattle.standard_monomials.specs.Finding.{GainsMonomial}
 use Rattle.standard_monomials.proofs.Rising.{searchable, gains_insert, gains_none}
 use Rattle.standard_monomials.proofs.finding.insert.Goals as goal
 
-pub returns-in_ok-insert : goal.returns-in_ok-insert
-returns-in_ok-insert c =
+pub returns-in_ok-insert-clause-gains : goal.returns-in_ok-insert-clause-gains
+returns-in_ok-insert-clause-gains c =
     let found = c.as_slice.result.now in
     let m = c.args.m in
     let i = c.in-Err.place in
@@ -17,8 +17,8 @@ returns-in_ok-insert c =
     let g = gains_insert found i m c.in-Err.ensures.bound (order (searchable found m rising)) rising in
     subst (GainsMonomial m c.args.found.now.items) (sym c.in_ok-insert.ensures.items) (subst (λ ms. GainsMonomial m ms (insert ms i m)) c.as_slice.ensures.value g)
 
-pub returns-in_default : goal.returns-in_default
-returns-in_default c =
+pub returns-in_default-clause-gains : goal.returns-in_default-clause-gains
+returns-in_default-clause-gains c =
     let found = c.as_slice.result.now in
     let m = c.args.m in
     let h = c.in_default.ensures.position (λ y. cmp_dp y m) (always_returns_same _ _ _ (λ a r f' k. search rules)) in

@@ -19,7 +19,7 @@ loop-v-preserved c =
           let outside : IsLeadMultiple ds (times m (variable v)) → ⊥ = λ h. (let q = w.if-not-is_lead_multiple.ensures.1 (subst (IsLeadMultiple ds) (sym next_is) h) in absurd (grind arith)) in
           subst (λ (f : _). GainsMultiples ds (v + 1) m old f.items) (sym w.found-is)
           (more ds m v old mid w.insert.new.found.items c.requires.seven (omega arith) c.loop-v.invariant outside
-          (subst (λ (x : Monomial). GainsMonomial x mid w.insert.new.found.items) next_is w.in_ok-insert.ensures))
+          (subst (λ (x : Monomial). GainsMonomial x mid w.insert.new.found.items) next_is w.in_ok-insert.ensures.gains))
       | else-not-is_lead_multiple w ↦
           subst (λ (f : _). GainsMultiples ds (v + 1) m old f.items) (sym w.found-is)
           (skip ds m v old mid c.loop-v.invariant (subst (IsLeadMultiple ds) next_is (w.if-not-is_lead_multiple.ensures.0 refl)))

@@ -1,5 +1,0 @@
-use Rattle.digit_make.specs.Playing.{GainsProducts}
-use Rattle.digit_make.proofs.planning.insert_products.Given as goal
-
-abbrev pub invariant-loop-i : goal.invariant-loop-i
-invariant-loop-i l = GainsProducts l.v l.i l.corners l.fn.border.items l.border.items
