@@ -1,6 +1,8 @@
 -- The rows that one generator leaves.
-use Rattle.std.proofs.Common.{◌≡◌, ◌↔◌, ℕ, ◌+◌, ◌*◌, ◌<◌, List, [], ◌∷◌, ◌++◌, map, length, take, replicate, get_or, All, sym, ap, ◌∙◌, subst, arith, mul-add}
-use Rattle.std.proofs.lemmas.List.{length-map, get_or-map, get_or_default, take_more}
+use Rattle.std.proofs.Common.{◌≡◌, ◌↔◌, ℕ, ◌+◌, ◌*◌, ◌<◌, List, [], ◌∷◌, ◌++◌, map, length, take, drop, replicate, get_or, All, sym, ap, ◌∙◌, subst, arith, mul-add}
+use Rattle.std.proofs.Math.Seq.{drop-append_seam}
+use Rattle.over_module.proofs.ZeroRows.{shorter}
+use Rattle.std.proofs.lemmas.List.{length-map, length-replicate, get_or-map, get_or_default, take_more}
 use Rattle.std.proofs.lemmas.List.Elements.{All-nil, All-cons, All-head, All-tail, All-append, All-map}
 use Rattle.comm_ring.specs.Rows.{rows}
 use Rattle.comm_ring.specs.Modules.{combination}
@@ -16,9 +18,9 @@ use Rattle.row_space.specs.Echelon.{IsRow}
 use Rattle.row_space.specs.Subspace.{Subspace, FitsIn, IsIn}
 use Rattle.digit_laws.specs.Digits.{AreCornersOf, value, AreDigits, HasDigitsIn, IsOfDigits}
 use Rattle.digit_laws.proofs.DigitLaws.{digit_law, value_poly}
-use Rattle.endo_ring.specs.Taken.{AreProducts, IsAfterZeros, IsTaken, IsTakenSum}
+use Rattle.over_module.specs.Raising.{behind_zeros, IsRaised}
+use Rattle.endo_ring.specs.Taken.{AreProducts, IsTaken, IsTakenSum}
 use Rattle.over_module.proofs.Values.{combined_digits, products_poly, pushed, value_combined}
-use Rattle.endo_ring.proofs.Zeros.{in_after, out_after}
 
 -- a space by its prime and width
 same_space : (s : Subspace) (p w : ℕ) → s.prime ≡ p → s.width ≡ w → record { prime = p; width = w; basis = s.basis } ≡ s
@@ -84,19 +86,25 @@ module _ (A : CurveData) (c : IsFinite A) (ms : List Monomial) (k : AreCornersOf
 
   -- ---- the target
 
-  module _ (ideal target : Subspace) (o : IsOfDigits A ms T ideal) (a : IsAfterZeros (length ms * T) ideal target) where
+  module _ (ideal target : Subspace) (o : IsOfDigits A ms T ideal) (a : IsRaised (length ms * T) ideal target) where
     pub target_digits : IsOfDigits A ms (T + T) target
     target_digits = record { prime = a.prime ∙ o.prime; width = a.width ∙ ap (λ n. length ms * T + n) o.width ∙ sym (mul-add (length ms) T T) }
 
     pub taken_is : (q : List Term) (row : List ℕ) → HasDigitsIn A ms (T + T) target (mul A.prime q (value A ms T row)) ↔ IsTaken A ms T ideal q row
     taken_is q row = (
       λ h.
-          let f = subst (λ z. IsRow z (length ms * T + ideal.width) h.0) (sym o.prime) (subst (λ w. IsRow A.prime w h.0) (mul-add (length ms) T T ∙ ap (λ n. length ms * T + n) (sym o.width)) h.1.fits) in
-          let positive = subst (λ n. 0 < n) (sym o.prime) pos in
-          let x = out_after (length ms * T) ideal target a h.0 positive f h.2 in
-          record { rest = x.0; inside = x.1; digits = subst (AreDigits A ms (T + T) (mul A.prime q (value A ms T row))) x.2 h.1 },
-      λ t. (replicate (length ms * T) 0 ++ t.rest, t.digits, in_after (length ms * T) ideal target a t.rest t.inside),
+          let f = subst (λ z. IsRow z target.width h.0) (sym target_digits.prime) (subst (λ w. IsRow A.prime w h.0) (sym target_digits.width) h.1.fits) in
+          let x = a.down h.0 f h.2 in
+          record { rest = x.0; inside = x.2; digits = subst (AreDigits A ms (T + T) (mul A.prime q (value A ms T row))) x.1 h.1 },
+      λ t. (behind_zeros (length ms * T) t.rest, t.digits, a.up t.rest (fits t) t.inside),
     )
+      where
+        drop-append : (rest : List ℕ) → drop (length ms * T) (behind_zeros (length ms * T) rest) ≡ rest
+        drop-append rest = subst (λ n. drop n (replicate (length ms * T) 0 ++ rest) ≡ rest) (length-replicate (length ms * T) 0) (drop-append_seam (replicate (length ms * T) 0) rest)
+
+        fits : (t : IsTaken A ms T ideal q row) → FitsIn ideal t.rest
+        fits t = subst (λ z. IsRow z ideal.width t.rest) (sym o.prime) (subst (λ w. IsRow A.prime w t.rest) (sym o.width)
+            (subst (IsRow A.prime (length ms * T)) (drop-append t.rest) (shorter A.prime (length ms * T) (length ms * T) (length ms * (T + T)) (behind_zeros (length ms * T) t.rest) (mul-add (length ms) T T) t.digits.fits)))
 
 -- one more member of a list
 pub all_more : {X : Type 0} (P : X → Type 0) (xs : List X) (i : ℕ) (d : X) → i < length xs → All P (take i xs) × P (get_or xs i d) ↔ All P (take (i + 1) xs)

@@ -1,5 +1,4 @@
 -- for this crate alone
 mod Sums
-mod Zeros
 mod Generators
 mod Taking

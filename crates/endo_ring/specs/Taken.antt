@@ -1,10 +1,9 @@
 -- Rows whose polynomials are taken into an ideal.
-use Rattle.std.specs.Prelude.{◌≡◌, ℕ, ◌+◌, ◌*◌, ◌%◌, ◌<◌, List, [], ◌++◌, map, length, replicate, slice_index, slice_index_or}
+use Rattle.std.specs.Prelude.{◌≡◌, ℕ, ◌+◌, ◌*◌, ◌%◌, ◌<◌, List, [], ◌++◌, length, replicate, slice_index, slice_index_or}
 use Rattle.monomials.specs.Mono.{Monomial}
 use Rattle.polys.specs.declared.term.Term.{Term}
 use Rattle.polys.specs.Terms.{mul}
 use Rattle.polys.specs.Curve.{CurveData}
-use Rattle.row_space.specs.Sums.{Covers}
 use Rattle.row_space.specs.Subspace.{Subspace, IsIn, product}
 use Rattle.digit_laws.specs.Digits.{value, AreDigits}
 
@@ -16,13 +15,6 @@ pub record IsTaken (A : CurveData) (ms : List Monomial) (T : ℕ) (space : Subsp
   pub digits : AreDigits A ms (T + T) (mul A.prime q (value A ms T row)) (replicate (length ms * T) 0 ++ rest)
 
 -- ---- parts of the work
-
--- the space of the rows of another one, each after so many zeros
-pub record IsAfterZeros (zeros : ℕ) (space made : Subspace) : Type 0 where
-  pub prime : made.prime ≡ space.prime
-  pub width : made.width ≡ zeros + space.width
-  pub covers : Covers space.prime (zeros + space.width) made.basis (map (λ row. replicate zeros 0 ++ row) space.basis)
-  pub covered : Covers space.prime (zeros + space.width) (map (λ row. replicate zeros 0 ++ row) space.basis) made.basis
 
 -- the row is a sum of multiples of the rows, and the sum of the same multiples of the images is in the space
 abbrev pub IsTakenSum : Subspace → List (List ℕ) → ℕ → List (List ℕ) → List ℕ → Type 0

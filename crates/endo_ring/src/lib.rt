@@ -6,7 +6,6 @@
 
 mod enlarging;
 mod narrowing;
-mod rows;
 mod spaces;
 
 pub use enlarging::endomorphisms;

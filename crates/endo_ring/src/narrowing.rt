@@ -9,34 +9,12 @@ ghost use Rattle.digit_space.specs.Adding.{AreMultiples};
 ghost use Rattle.digit_space.specs.Model.{IsDigitRow, IsDigitSpace};
 ghost use Rattle.endo_ring.specs.Taken.{AreProducts, IsTaken};
 
-use super::rows::{before_zeros, front_of};
-use super::spaces::{after_zeros_space, copy_of_space, taken_sums};
+use super::spaces::{behind_space, taken_sums};
 use digit_space::Digits;
 use lists::{List, NoMemory};
+use over_module::{entries, filled, multiples_of, spanned};
 use polys::Poly;
 use row_space::Space;
-
-// The entries of so many blocks.
-fn entries(digits: &Digits, blocks: u32) -> usize
-    requires { blocks ≤ digits.now.depth }
-    ensures value { result ≡ length digits.now.basis * blocks }
-    ensures known { IsDigitSpace digits.now }
-{
-    digits.basis().len() * blocks as usize
-}
-
-// The digits of the generator times each corner.
-fn multiples_of(digits: &Digits, generator: &Poly) -> Result<List<List<u32>>, NoMemory>
-    requires { IsOver digits.now.curve.prime digits.now.curve.variables generator.now }
-    ensures count { IfOk result (λ rows. length rows ≡ length digits.now.basis) }
-    ensures fit { IfOk result (λ rows. (i : ℕ) → i < length digits.now.basis → IsDigitRow digits.now (slice_index_or rows i [])) }
-    ensures rows { IfOk result (AreMultiples digits.now generator.now.terms) }
-{
-    let _basis = digits.basis();
-    let row = digits.digits_of(generator)?;
-    let rows = digits.multiples(row.as_slice())?;
-    Ok(rows)
-}
 
 // The first digits, of 2 times `blocks` blocks, of the generator times the row's polynomial.
 fn product_row(
@@ -56,15 +34,11 @@ fn product_row(
         (λ made. AreDigits (data_of digits.now.curve) digits.now.basis (blocks + blocks)
         (mul digits.now.curve.prime generator.now.terms (value (data_of digits.now.curve) digits.now.basis blocks row.now)) made) }
 {
-    let zeros = entries(digits, digits.depth() - blocks);
-    let filled = before_zeros(digits.allocator(), row, zeros)?;
+    let width = entries(digits, digits.depth());
+    let filled = filled(digits.allocator(), width, row)?;
     let whole = digits.product_by(filled.as_slice(), multiples)?;
-    let front = front_of(
-        digits.allocator(),
-        whole.as_slice(),
-        entries(digits, blocks + blocks),
-    )?;
-    Ok(front)
+    let front = entries(digits, blocks + blocks);
+    Ok(List::from_slice(digits.allocator(), &whole.as_slice()[..front])?)
 }
 
 // The digits of the generator times the polynomial of each row.
@@ -130,8 +104,8 @@ pub(crate) fn solutions(
 {
     let width = entries(digits, blocks);
     let alloc = digits.allocator();
-    let target = after_zeros_space(alloc, width, ideal, entries(digits, blocks + blocks))?;
-    let mut found = copy_of_space(alloc, ideal, width)?;
+    let target = behind_space(alloc, width, ideal, entries(digits, blocks + blocks))?;
+    let mut found = spanned(alloc, ideal.prime(), width, ideal.rows())?;
     for i in 0..generators.len() {
         found = narrowed(digits, blocks, &found, &generators[i], &target)?;
     }

@@ -1,11 +1,12 @@
 -- Finite-dimensional commutative algebras with one over the field of p elements.
 use Rattle.std.specs.Prelude.{◌≡◌, ℕ, ◌+◌, ◌*◌, ◌<◌, List, [], length, slice_index, slice_index_or, slice_set, replicate}
 use Rattle.std.specs.List.{All}
-use Rattle.comm_ring.specs.Ring.{Ops}
+use Rattle.comm_ring.specs.Ring.{Ops, pow}
 use Rattle.comm_ring.specs.Sums.{joined, below}
 use Rattle.comm_ring.specs.Modules.{ModuleOps}
 use Rattle.comm_ring.specs.Rows.{rows}
 use Rattle.row_space.specs.Echelon.{IsRow}
+use Rattle.row_space.specs.Subspace.{IsZero}
 
 -- the prime, the dimension n, the row of the one, and the products of the basis elements: the row i * n + j is the product of the elements i and j
 pub record FiniteAlgebra : Type 0 where
@@ -35,6 +36,10 @@ times A x y =
 -- the elements as a ring
 abbrev pub ring_of : FiniteAlgebra → Ops
 ring_of A = let V = elements A in record { carrier = List ℕ; ◌≈◌ = V.◌≋◌; ◌⊕◌ = V.◌⊞◌; ◌⊗◌ = times A; neg = V.opposite; 𝟘 = V.origin; 𝟙 = A.one }
+
+-- some power of the element is 0
+abbrev pub IsNilpotent : FiniteAlgebra → List ℕ → Type 0
+IsNilpotent A x = (k : ℕ) × IsZero A.prime A.dimension (pow (ring_of A) x k)
 
 -- the product is commutative and associative, and the one is its one
 pub record IsAlgebra (A : FiniteAlgebra) : Type 0 where

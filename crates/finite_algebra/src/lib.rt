@@ -10,7 +10,7 @@ mod multiples;
 mod projecting;
 
 pub use algebra::{Algebra, basis_laws_suffice};
-pub use projecting::image;
+pub use projecting::{at_all_places, image, images_of};
 
 #[cfg(test)]
 mod tests;

@@ -71,8 +71,8 @@ fn at_places(alloc: Global, places: &[usize], row: &[u32]) -> Result<List<u32>, 
     Ok(made)
 }
 
-// The entries of each row at the places.
-pub(crate) fn at_all_places(
+/// The entries of each row at the places.
+pub fn at_all_places(
     alloc: Global,
     places: &[usize],
     rows: &[List<u32>],
@@ -105,6 +105,25 @@ pub fn image(
     let mut out = zero_row(alloc, columns)?;
     add_multiples(prime, 1, v, matrix, out.as_mut_slice());
     Ok(List::of_vec(out))
+}
+
+/// Each of the rows `vs` times the matrix, whose rows have `columns` entries.
+pub fn images_of(
+    alloc: Global,
+    prime: Prime,
+    matrix: &[List<u32>],
+    columns: usize,
+    vs: &[List<u32>],
+) -> Result<List<List<u32>>, NoMemory>
+    requires matrix { All (IsRow prime columns) matrix.now }
+    requires vs { All (IsRow prime (length matrix.now)) vs.now }
+    ensures { IfOk result (λ made. made ≡ map (λ v. product prime columns v matrix.now) vs.now) }
+{
+    let mut made = List::new(alloc);
+    for v in vs {
+        made.push(image(alloc, prime, matrix, columns, v.as_slice())?)?;
+    }
+    Ok(made)
 }
 
 // Puts the images of the rows with these numbers at the end of `into`.

@@ -8,13 +8,13 @@ use Rattle.comm_ring.specs.Modules.{InSpan}
 use Rattle.comm_ring.proofs.Derived as Derived
 use Rattle.comm_ring.proofs.Quote.{ring, ring_by, fact, quote}
 use Rattle.row_space.specs.Subspace.{Subspace, IsIn, IsZero}
-use Rattle.finite_algebra.specs.Elements.{FiniteAlgebra, IsAlgebra, IsElement, elements, ring_of}
+use Rattle.finite_algebra.specs.Elements.{FiniteAlgebra, IsAlgebra, IsElement, elements, ring_of, IsNilpotent}
 use Rattle.finite_algebra.specs.Projections.{IsIdealOf}
 use Rattle.finite_algebra.proofs.Generated.{moved}
 use Rattle.finite_algebra.proofs.Products.{reduced, reduced_fits, times_fits}
 use Rattle.frobenius_laws.proofs.Ideals.{InOrInverse, is_radical}
 use Rattle.frobenius_split.specs.Points.{AreMaximalIdeals, IsMaximalIdeal, at}
-use Rattle.frobenius_map.specs.Nilpotent.{IsNilpotent, IsRadicalOf}
+use Rattle.frobenius_map.specs.Nilpotent.{IsRadicalOf}
 use Rattle.frobenius_split.specs.Parts.{AreParts, ArePulledApart, HasValue, IsPart, number_of}
 use Rattle.frobenius_map.specs.Powers.{IsWithin}
 use Rattle.frobenius_split.specs.Idempotents.{AreIdempotents, AreIdempotentsIn, AreIdempotentsOf, AreOrthogonal, IsIdealAt, IsNumberAt, sum_of}

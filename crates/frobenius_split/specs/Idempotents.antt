@@ -1,10 +1,10 @@
 -- Idempotents that are orthogonal to each other, and what splits them.
-use Rattle.std.specs.Prelude.{◌≡◌, ◌≢◌, ◌↔◌, ℕ, ◌+◌, ◌-◌, ◌*◌, ◌%◌, ◌<◌, List, [], ◌∷◌, length, slice_index, slice_index_or}
+use Rattle.std.specs.Prelude.{◌≡◌, ◌≢◌, ◌↔◌, ℕ, ◌+◌, ◌-◌, ◌*◌, ◌%◌, ◌<◌}
+use Rattle.std.specs.Prelude.{List, [], ◌∷◌, length, slice_index, slice_index_or}
 use Rattle.std.specs.List.{All}
 use Rattle.comm_ring.specs.Ring.{pow}
 use Rattle.row_space.specs.Subspace.{Subspace, IsIn, IsZero, DifferIn}
-use Rattle.finite_algebra.specs.Elements.{FiniteAlgebra, IsElement, elements, ring_of, times}
-use Rattle.frobenius_map.specs.Nilpotent.{IsNilpotent}
+use Rattle.finite_algebra.specs.Elements.{FiniteAlgebra, IsElement, IsNilpotent, elements, ring_of, times}
 use Rattle.frobenius_split.specs.Points.{at}
 use Rattle.frobenius_split.specs.Parts.{less_number}
 
@@ -43,21 +43,31 @@ abbrev pub lowered_by : FiniteAlgebra → List ℕ → List ℕ → List ℕ →
 lowered_by A u [] w = w
 lowered_by A u (c ∷ cs) w = times A (less_number A u c) (lowered_by A u cs w)
 
+-- u times the element is c times it
+abbrev pub IsEigenpart : FiniteAlgebra → List ℕ → ℕ → List ℕ → Type 0
+IsEigenpart A u c part = (elements A).◌≋◌ (times A u part) ((elements A).◌·◌ c part)
+
 -- elements other than 0 with w as their sum; the product of u with each of them is its number times it, and the numbers rise
 pub record AreEigenparts (A : FiniteAlgebra) (u w values : List ℕ) (parts : List (List ℕ)) : Type 0 where
   pub count : length values ≡ length parts
   pub rows : All (IsElement A) parts
   pub nonzero : All (λ f. ¬ (IsZero A.prime A.dimension f)) parts
-  pub eigen : (j : ℕ) → j < length parts → (elements A).◌≋◌ (times A u (slice_index_or parts j [])) ((elements A).◌·◌ (slice_index values j) (slice_index_or parts j []))
+  pub eigen : (j : ℕ) → j < length parts → IsEigenpart A u (slice_index values j) (slice_index_or parts j [])
   pub rising : (i j : ℕ) → i < j → j < length parts → slice_index values i < slice_index values j
   pub sum : (elements A).◌≋◌ (sum_of A parts) w
 
+-- the part divided by its number less c
+abbrev pub IsDividedPart : FiniteAlgebra → ℕ → ℕ → List ℕ → List ℕ → Type 0
+IsDividedPart A c value part made =
+    (d : ℕ) × (((value + (A.prime - c)) * d) % A.prime ≡ 1 % A.prime) × (elements A).◌≋◌ made ((elements A).◌·◌ d part)
+
 -- made holds the first j of the parts, each divided by its number less c, and what is left is w less their sum
-pub record AreDivided (A : FiniteAlgebra) (values : List ℕ) (parts : List (List ℕ)) (c : ℕ) (w : List ℕ) (j : ℕ) (made : List (List ℕ)) (left : List ℕ) : Type 0 where
+pub record AreDivided (A : FiniteAlgebra) (values : List ℕ) (parts : List (List ℕ)) (c : ℕ) (w : List ℕ) (j : ℕ)
+    (made : List (List ℕ)) (left : List ℕ) : Type 0 where
   pub count : length made ≡ j
   pub rows : All (IsElement A) made
   pub rest : IsElement A left
-  pub quotients : (i : ℕ) → i < j → (d : ℕ) × (((slice_index values i + (A.prime - c)) * d) % A.prime ≡ 1 % A.prime) × (elements A).◌≋◌ (slice_index_or made i []) ((elements A).◌·◌ d (slice_index_or parts i []))
+  pub quotients : (i : ℕ) → i < j → IsDividedPart A c (slice_index values i) (slice_index_or parts i []) (slice_index_or made i [])
   pub sum : (elements A).◌≋◌ ((elements A).◌⊞◌ left (sum_of A made)) w
 
 -- the space holds exactly the elements whose product with e lies in the other space
@@ -66,7 +76,8 @@ pub record IsIdealAt (A : FiniteAlgebra) (nilpotent : Subspace) (e : List ℕ) (
   pub width : space.width ≡ A.dimension
   pub members : (x : List ℕ) → IsElement A x → IsIn space x ↔ IsIn nilpotent (times A x e)
 
--- idempotents, orthogonal to each other with the one as their sum, one beside each of the spaces: modulo its own space it is the one, and it lies in each of the others; a space holds exactly the elements whose product with its idempotent is nilpotent
+-- idempotents, orthogonal to each other with the one as their sum, one beside each of the spaces: modulo its own space it is the
+-- one, and it lies in each of the others; a space holds exactly the elements whose product with its idempotent is nilpotent
 pub record AreIdempotentsOf (A : FiniteAlgebra) (spaces : List Subspace) (es : List (List ℕ)) : Type 0 where
   pub count : length es ≡ length spaces
   pub idempotents : AreIdempotents A es

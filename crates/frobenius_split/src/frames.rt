@@ -1,7 +1,7 @@
 // Elements in the parts of idempotents that span the algebra together with the nilpotent elements, and
 // the ideals at the idempotents by the coordinates that they give.
-ghost use Rattle.std.specs.Prelude.{◌≡◌, ℕ, ◌++◌, ◌∷◌, ◌<◌, [], length, slice_index, slice_index_or, map, All, IfOk, OnOk, MatchOption};
-ghost use Rattle.row_space.specs.Echelon.{IsRow, entries_at};
+ghost use Rattle.std.specs.Prelude.{◌≡◌, ℕ, ◌++◌, ◌∷◌, ◌<◌, [], length, slice_index_or, All, IfOk, OnOk, MatchOption};
+ghost use Rattle.row_space.specs.Echelon.{IsRow};
 ghost use Rattle.finite_algebra.specs.Elements.{AreProducts, IsElement, elements, times};
 ghost use Rattle.frobenius_map.specs.Nilpotent.{IsRadicalOf};
 ghost use Rattle.frobenius_split.specs.Points.{at};
@@ -11,7 +11,7 @@ ghost use Rattle.row_matrices.specs.Inverses.{IsInverse};
 
 use super::idempotents::mixture;
 use super::polynomials::product_with;
-use finite_algebra::Algebra;
+use finite_algebra::{Algebra, at_all_places};
 use lists::{List, NoMemory};
 use row_matrices::{copy_of, inverse_of, kernel_backward};
 use row_space::{Insert, Space};
@@ -246,31 +246,6 @@ fn places_of(alloc: Global, numbers: &[usize], k: usize) -> Result<List<usize>, 
     Ok(places)
 }
 
-// The entries of the row at the places.
-fn at_places(alloc: Global, places: &[usize], row: &[u32]) -> Result<List<u32>, NoMemory>
-    requires { (t : ℕ) → t < length places.now → slice_index places.now t < length row.now }
-    ensures { IfOk result (λ made. made ≡ entries_at places.now row.now) }
-{
-    let mut made = List::new(alloc);
-    for place in places {
-        made.push(row[*place])?;
-    }
-    Ok(made)
-}
-
-// The entries of each row at the places.
-fn columns(alloc: Global, places: &[usize], rows: &[List<u32>]) -> Result<List<List<u32>>, NoMemory>
-    requires { (t i : ℕ) → t < length places.now → i < length rows.now → slice_index places.now t < length (slice_index_or rows.now i []) }
-    ensures { IfOk result (λ made. made ≡ map (entries_at places.now) rows.now) }
-{
-    let mut made = List::new(alloc);
-    for i in 0..rows.len() {
-        let row = at_places(alloc, places, rows[i].as_slice())?;
-        made.push(row)?;
-    }
-    Ok(made)
-}
-
 // The ideal at the idempotent k: the elements whose coordinates at its own elements are 0.
 fn ideal_of(
     alloc: Global,
@@ -291,7 +266,7 @@ fn ideal_of(
     let _one = a.one();
     let _p = a.prime().get();
     let places = places_of(alloc, frame.numbers.as_slice(), k)?;
-    let values = columns(alloc, places.as_slice(), inverse)?;
+    let values = at_all_places(alloc, places.as_slice(), inverse)?;
     let space = kernel_backward(alloc, a.prime(), values.as_slice(), places.len())?;
     Ok(space)
 }

@@ -1,5 +1,5 @@
 -- The steps of a chain, by rows.
-use Rattle.std.proofs.Common.{◌≡◌, ◌↔◌, suc, ◌+◌, ◌-◌, ◌≤◌, List, [], ◌∷◌, length, sym, subst, arith}
+use Rattle.std.proofs.Common.{◌≡◌, ◌↔◌, suc, ◌+◌, ◌-◌, ◌≤◌, List, [], ◌∷◌, length, sym, ◌∙◌, subst, arith}
 use Rattle.std.proofs.lemmas.List.Elements.{All-nil, All-cons}
 use Rattle.polys.specs.declared.term.Term.{Term}
 use Rattle.polys.specs.declared.curve.Curve.{Curve}
@@ -22,7 +22,7 @@ use Rattle.chain_laws.proofs.StepLaws.{enlarged_ring_law, one_module_law, dimens
 use Rattle.chain_laws.proofs.FewerLaws.{fewer_law}
 use Rattle.over_laws.specs.Over.{OverData, InOver, HasRows}
 use Rattle.over_laws.specs.Laws.{RowsAreModule}
-use Rattle.over_laws.specs.Chain.{IsLocalOver, rank, EnlargementSays, ChainSteps, ChainBegins}
+use Rattle.over_laws.specs.Chain.{IsLocalOver, rank, IsEnlarged, EnlargementSays, ChainSteps, ChainBegins, EnlargementsAreOne}
 use Rattle.over_laws.proofs.Rows.{rows_law, basis_moved}
 
 module _ (A : CurveData) (c : IsFinite A) (P : List (List Term)) where
@@ -106,6 +106,7 @@ module _ (o q : OverData) (ho : HasRows o) (P : List (List Term)) (point : IsPoi
     says : EnlargementSays o P (with_curve o.curve)
     says = record {
       ring = record { list = rq.is_module.list; polys = rq.is_module.polys; same = rq.is_module.same; ring = ring.0 };
+      holds = λ f hf z. (rq.is_module.same f hf).1 (ring.1 f hf ((w.same f hf).0 z));
       grows =
           let a : length ro.basis.fractions ≡ rank o = ro.basis.as_many in
           let b : length rq.basis.fractions ≡ rank q = rq.basis.as_many in
@@ -145,3 +146,40 @@ begins_law o h P point e =
           (λ f hf. ((λ z. (r.same f hf).0 ((e f hf).1 ((whole (data_of o.curve) c f hf).1 z))), λ z. (whole (data_of o.curve) c f hf).0 ((e f hf).0 ((r.same f hf).1 z))))).ring
           (starts_law (data_of o.curve) c P point);
     }
+
+module _ (q r : OverData) (hq : HasRows q) where
+  abbrev on_curve : Curve → OverData
+  on_curve C = record { curve = C; dimension = r.dimension; power = r.power; rows = r.rows }
+
+  module _ (hr : HasRows (on_curve q.curve)) (P : List (List Term)) (w : IsLocalOver q P)
+      (inside : (f : Fraction) → IsFraction (data_of q.curve) f → InOver q f → InOver (on_curve q.curve) f) where
+    few : rank q ≤ rank r
+    few =
+        let A = data_of q.curve in
+        let c : IsFinite (data_of q.curve) = fit_law q.curve hq.prime hq.fit in
+        let rq = rows_law q hq in
+        let rr = rows_law (on_curve q.curve) hr in
+        let within : LiesWithin (data_of q.curve) q.power w.list r.power rr.is_module.list = λ f h z. (rr.is_module.same f h).0 (inside f h ((w.same f h).1 z)) in
+        let bq = basis_moved (data_of q.curve) (InOver q) (InModule (data_of q.curve) q.power w.list) w.same rq.basis.fractions rq.basis.basis in
+        let br = basis_moved (data_of q.curve) (InOver (on_curve q.curve)) (InModule (data_of q.curve) r.power rr.is_module.list) rr.is_module.same rr.basis.fractions rr.basis.basis in
+        let m : length rq.basis.fractions ≤ length rr.basis.fractions =
+        (dimensions_law (data_of q.curve) c q.power w.list w.polys w.ring.ring w.ring.holds r.power rr.is_module.list rr.is_module.polys within rq.basis.fractions rr.basis.fractions bq br).most in
+        let a : length rq.basis.fractions ≡ rank q = rq.basis.as_many in
+        let b : length rr.basis.fractions ≡ rank r = rr.basis.as_many in
+        omega arith
+
+-- a ring of local fractions within another module has no more dimensions
+fewer : (q r : OverData) → HasRows q → HasRows r → (P : List (List Term)) → r.curve ≡ q.curve → IsLocalOver q P
+    → ((f : Fraction) → IsFraction (data_of q.curve) f → InOver q f → InOver r f) → rank q ≤ rank r
+fewer q r hq hr P e w inside =
+    subst (λ C. HasRows (on_curve q r hq C) → ((f : Fraction) → IsFraction (data_of q.curve) f → InOver q f → InOver (on_curve q r hq C) f) → rank q ≤ rank r) (sym e)
+    (λ h i. few q r hq h P w i) hr inside
+
+pub one_law : EnlargementsAreOne
+one_law o q r ho hq hr P point w eq er =
+    let inside : (x y : OverData) → IsEnlarged o P x → IsEnlarged o P y → (f : Fraction) → IsFraction (data_of x.curve) f → InOver x f → InOver y f = λ x y ex ey f h z.
+    let hf = subst (λ C. IsFraction (data_of C) f) ex.curve h in
+    (ey.exact f hf).1 ((ex.exact f hf).0 z) in
+    let a : rank q ≤ rank r = fewer q r hq hr P (er.curve ∙ sym eq.curve) (steps_law o q ho hq P point w eq).ring (inside q r eq er) in
+    let b : rank r ≤ rank q = fewer r q hr hq P (eq.curve ∙ sym er.curve) (steps_law o r ho hr P point w er).ring (inside r q er eq) in
+    omega arith

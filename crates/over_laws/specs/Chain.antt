@@ -28,10 +28,11 @@ pub record IsEnlarged (o : OverData) (P : List (List Term)) (q : OverData) : Typ
   pub curve : q.curve ≡ o.curve
   pub exact : (f : Fraction) → IsFraction (data_of o.curve) f → InOver q f ↔ KeepsRadical (data_of o.curve) P (InOver o) f
 
--- then q is such a ring, of no fewer dimensions; where it has as many, o has exactly the local fractions and counts delta; and
--- delta is above each number below the dimension of q
+-- then q is such a ring, which holds o and has no fewer dimensions; where it has as many, o has exactly the local fractions and
+-- counts delta; and delta is above each number below the dimension of q
 pub record EnlargementSays (o : OverData) (P : List (List Term)) (q : OverData) : Type 0 where
   pub ring : IsLocalOver q P
+  pub holds : (f : Fraction) → IsFraction (data_of o.curve) f → InOver o f → InOver q f
   pub grows : rank o ≤ rank q
   pub full : rank o ≡ rank q → (f : Fraction) → IsFraction (data_of o.curve) f → InOver o f ↔ Local (data_of o.curve) P f
   pub delta : rank o ≡ rank q → HasDelta (data_of o.curve) P (rank o)
@@ -47,3 +48,9 @@ abbrev pub ChainBegins : Type 0
 ChainBegins =
     (o : OverData) → HasRows o → (P : List (List Term)) → IsPoint (data_of o.curve) P
     → ((f : Fraction) → IsFraction (data_of o.curve) f → InOver o f ↔ InA (data_of o.curve) f) → IsLocalOver o P
+
+-- two such modules have one dimension
+abbrev pub EnlargementsAreOne : Type 0
+EnlargementsAreOne =
+    (o q r : OverData) → HasRows o → HasRows q → HasRows r → (P : List (List Term)) → IsPoint (data_of o.curve) P
+    → IsLocalOver o P → IsEnlarged o P q → IsEnlarged o P r → rank q ≡ rank r

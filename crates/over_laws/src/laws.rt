@@ -1,6 +1,6 @@
 // The laws of modules by rows: each function has an empty body, and its contract is the law.
 ghost use Rattle.over_laws.specs.BaseIdeals.{CornerProductsAreAlgebras, GeneratedByDigits};
-ghost use Rattle.over_laws.specs.Chain.{ChainBegins, ChainSteps};
+ghost use Rattle.over_laws.specs.Chain.{ChainBegins, ChainSteps, EnlargementsAreOne};
 ghost use Rattle.over_laws.specs.Endo.{GeneratorsDecideEndomorphisms, GeneratorsOverRingDecide};
 ghost use Rattle.over_laws.specs.Laws.{RowsAreModules};
 
@@ -10,10 +10,11 @@ pub fn rows_are_modules()
 {}
 
 /// A itself begins a chain at a point; an enlargement is a ring of local fractions of no fewer dimensions, and where it has
-/// as many the old module has exactly the local fractions.
+/// as many the old module has exactly the local fractions. An enlargement has one dimension, whatever its rows.
 pub fn chains_are_steps()
     ensures begin { ChainBegins }
     ensures step { ChainSteps }
+    ensures one { EnlargementsAreOne }
 {}
 
 /// What takes the generators of a module of fractions over d^e that holds d into it takes the module into itself.

@@ -54,13 +54,16 @@ module _ (g : DigitData) (s : IsDigitSpace g) where
 
   -- ---- rows that are filled with zeros
 
-  module _ (t : ℕ) (h : t ≤ g.depth) (row : List ℕ) (fits : IsRow g.curve.prime (length g.basis * t) row) (zeros : ℕ) (e : zeros ≡ length g.basis * (g.depth - t)) where
-    wide : length g.basis * g.depth ≡ length g.basis * t + length g.basis * (g.depth - t)
-    wide = ap (λ n. length g.basis * n) (let q : g.depth ≡ t + (g.depth - t) = omega arith in q) ∙ mul-add (length g.basis) t (g.depth - t)
+  wide : (t : ℕ) → t ≤ g.depth → length g.basis * g.depth ≡ length g.basis * t + length g.basis * (g.depth - t)
+  wide t h = ap (λ n. length g.basis * n) (let q : g.depth ≡ t + (g.depth - t) = omega arith in q) ∙ mul-add (length g.basis) t (g.depth - t)
 
+  pub zeros_are : (t : ℕ) → t ≤ g.depth → (row : List ℕ) → length row ≡ length g.basis * t → length g.basis * g.depth - length row ≡ length g.basis * (g.depth - t)
+  zeros_are t h row e = let a = wide t h in omega arith
+
+  module _ (t : ℕ) (h : t ≤ g.depth) (row : List ℕ) (fits : IsRow g.curve.prime (length g.basis * t) row) (zeros : ℕ) (e : zeros ≡ length g.basis * (g.depth - t)) where
     pub filled_row : IsDigitRow g (row ++ replicate zeros 0)
     filled_row = (
-      (let a : length {A = ℕ} (row ++ replicate zeros 0) ≡ length row + length {A = ℕ} (replicate zeros 0) = length-append row (replicate zeros 0) in let b : length {A = ℕ} (replicate zeros 0) ≡ zeros = length-replicate zeros 0 in let l : length row ≡ length g.basis * t = fits.0 in let w = wide in omega arith),
+      (let a : length {A = ℕ} (row ++ replicate zeros 0) ≡ length row + length {A = ℕ} (replicate zeros 0) = length-append row (replicate zeros 0) in let b : length {A = ℕ} (replicate zeros 0) ≡ zeros = length-replicate zeros 0 in let l : length row ≡ length g.basis * t = fits.0 in let w = wide t h in omega arith),
       All-append (λ x. x < g.curve.prime) row (replicate zeros 0) fits.1 (zeros_row (data_of g.curve) finite g.basis s.corners zeros),
     )
 

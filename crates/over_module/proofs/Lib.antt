@@ -1,27 +1,16 @@
--- for the crates above: the digits of a fit curve, rows that are filled with zeros, fractions by rows at two depths, and a module
--- over the curve of its digits
+-- for the crates above: the digits of a fit curve, rows that are filled with zeros, and fractions by rows at two depths
 pub mod Facts
 pub mod Values
 pub mod DepthRows
-pub mod Numerators
-pub mod QuotientParts
--- for this crate alone: products of corners
-mod CornerRows
--- spaces of rows behind zeros
-mod ZeroRows
+-- spaces of rows behind zeros, and sums of rows
+pub mod ZeroRows
+pub mod SummedRows
+-- for this crate alone: modules over another power of d
 mod Ranks
 mod Moved
 -- A itself
 mod WholeRing
 -- which fractions are in a module, sums, and the least power
 mod Compared
-mod SummedRows
 mod SummedModules
 mod LeastPower
--- rows whose first entries are in a space, products by rows, complements, and tables of coordinates
-mod Fronts
-mod Times
-mod ProductLists
-mod Divided
-mod RestSpaces
-mod Tables

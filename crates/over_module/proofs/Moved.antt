@@ -15,10 +15,10 @@ use Rattle.row_space.specs.Subspace.{Subspace, IsReduced}
 use Rattle.digit_laws.specs.Digits.{IsIdealSpace, IsOfDigits}
 use Rattle.digit_laws.proofs.DigitLaws.{digit_law}
 use Rattle.over_laws.specs.Over.{OverData, InRows, HasRows, HaveSameFractions}
-use Rattle.over_module.specs.Raising.{behind_zeros, BeginsWithZeros, IsAtPower, IsRaised, IsSpannedBy}
+use Rattle.over_module.specs.Raising.{behind_zeros, AreRowsAt, BeginsWithZeros, IsAtPower, IsRaised, IsSpannedBy}
 use Rattle.over_module.proofs.DepthRows.{raised_same, ideal_moved}
 use Rattle.over_module.proofs.Ranks.{same_rank}
-use Rattle.over_module.proofs.ZeroRows.{fits_of, independent_of, longer, shorter, raised_space, spanned_basis, zeros_back}
+use Rattle.over_module.proofs.ZeroRows.{fits_of, independent_of, all_longer, shorter, raised_space, spanned_basis, zeros_back}
 
 module _ (o : OverData) (h : HasRows o) where
   pub finite : IsFinite (data_of o.curve)
@@ -78,11 +78,8 @@ module _ (o : OverData) (h : HasRows o) where
 
 -- ---- what the program makes
 
-pub all_moved : (p q v w : ℕ) (vs ws : List (List ℕ)) → q ≡ p → w ≡ v → ws ≡ vs → All (IsRow p v) vs → All (IsRow q w) ws
-all_moved p q v w vs ws ep ev e h = subst (All (IsRow q w)) (sym e) (subst (λ n. All (IsRow n w) vs) (sym ep) (subst (λ n. All (IsRow p n) vs) (sym ev) h))
-
-pub spanned_moved : (p q v w : ℕ) (vs ws : List (List ℕ)) (s : Subspace) → q ≡ p → w ≡ v → ws ≡ vs → IsSpannedBy q w ws s → IsSpannedBy p v vs s
-spanned_moved p q v w vs ws s ep ev e h = subst (λ n. IsSpannedBy n v vs s) ep (subst (λ n. IsSpannedBy q n vs s) ev (subst (λ us. IsSpannedBy q w us s) e h))
+pub spanned_moved : (p q v w : ℕ) (vs : List (List ℕ)) (s : Subspace) → q ≡ p → w ≡ v → IsSpannedBy q w vs s → IsSpannedBy p v vs s
+spanned_moved p q v w vs s ep ev h = subst (λ n. IsSpannedBy n v vs s) ep (subst (λ n. IsSpannedBy q n vs s) ev h)
 
 module _ (o : OverData) (D : ℕ) (S : Subspace) (C : Curve) (n : ℕ) (ec : C ≡ o.curve) (en : n ≡ o.dimension) where
   pub rows_moved : HasRows (record { curve = o.curve; dimension = o.dimension; power = D; rows = S }) → HasRows (record { curve = C; dimension = n; power = D; rows = S })
@@ -109,32 +106,31 @@ module _ (o : OverData) (h : HasRows o) (e : IsReduced o.rows) where
     wide : o.dimension * D ≡ o.dimension * (D - o.power) + o.rows.width
     wide = ap (λ n. o.dimension * n) (let q : D ≡ (D - o.power) + o.power = omega arith in q) ∙ mul-add o.dimension (D - o.power) o.power ∙ ap (λ n. o.dimension * (D - o.power) + n) (sym h.rows_width)
 
-    pub raised_fit : All (IsRow o.rows.prime (o.dimension * D)) (map (behind_zeros (o.dimension * (D - o.power))) o.rows.basis)
-    raised_fit = All-map (IsRow o.rows.prime (o.dimension * D)) (behind_zeros (o.dimension * (D - o.power))) o.rows.basis
-        (λ i d l. longer o.rows.prime (o.dimension * (D - o.power)) o.rows.width (o.dimension * D) (get_or o.rows.basis i d) (over_zero o h) wide (h.fits i d l))
+    raised_fit : All (IsRow o.rows.prime (o.dimension * D)) (map (behind_zeros (o.dimension * (D - o.power))) o.rows.basis)
+    raised_fit = all_longer o.rows.prime (o.dimension * (D - o.power)) o.rows.width (o.dimension * D) o.rows.basis (over_zero o h) wide h.fits
 
     module _ (S : Subspace) (s : IsSpannedBy o.rows.prime (o.dimension * D) (map (behind_zeros (o.dimension * (D - o.power))) o.rows.basis) S) where
       raised_is : IsRaised (o.dimension * (D - o.power)) o.rows S
       raised_is = raised_space o.rows.prime (o.dimension * (D - o.power)) o.rows.width (o.dimension * D) o.rows.basis o.rows S wide (spanned_basis o.rows e) s
 
-      pub made_rows : HasRows (record { curve = o.curve; dimension = o.dimension; power = D; rows = S })
+      made_rows : HasRows (record { curve = o.curve; dimension = o.dimension; power = D; rows = S })
       made_rows = raised_rows o h (D - o.power) D (o.dimension * (D - o.power)) S (let q : D ≡ (D - o.power) + o.power = omega arith in q) refl raised_is s.reduced
 
-      pub made_same : HaveSameFractions o (record { curve = o.curve; dimension = o.dimension; power = D; rows = S })
+      made_same : HaveSameFractions o (record { curve = o.curve; dimension = o.dimension; power = D; rows = S })
       made_same = raised_fractions o h (D - o.power) D (o.dimension * (D - o.power)) S (let q : D ≡ (D - o.power) + o.power = omega arith in q) refl raised_is
 
-      pub made_rank : length S.basis ≡ length o.rows.basis
+      made_rank : length S.basis ≡ length o.rows.basis
       made_rank = same_rank (o.dimension * (D - o.power)) o.rows S rows_prime raised_is e s.reduced
+
+    pub raised_at : AreRowsAt o D (map (behind_zeros (o.dimension * (D - o.power))) o.rows.basis)
+    raised_at = record { fit = raised_fit; rows = made_rows; same = made_same; rank = made_rank }
 
   -- ---- at a smaller power
   module _ (s : ℕ) (le : s ≤ o.power) where
     narrow : o.rows.width ≡ o.dimension * s + o.dimension * (o.power - s)
     narrow = h.rows_width ∙ ap (λ n. o.dimension * n) (let q : o.power ≡ s + (o.power - s) = omega arith in q) ∙ mul-add o.dimension s (o.power - s)
 
-    pub long_enough : All (λ row. o.dimension * s ≤ length row) o.rows.basis
-    long_enough i d l = let q = (h.fits i d l).0 in let w = narrow in omega arith
-
-    pub lowered_fit : All (IsRow o.rows.prime (o.dimension * (o.power - s))) (map (drop (o.dimension * s)) o.rows.basis)
+    lowered_fit : All (IsRow o.rows.prime (o.dimension * (o.power - s))) (map (drop (o.dimension * s)) o.rows.basis)
     lowered_fit = All-map (IsRow o.rows.prime (o.dimension * (o.power - s))) (drop (o.dimension * s)) o.rows.basis
         (λ i d l. shorter o.rows.prime (o.dimension * s) (o.dimension * (o.power - s)) o.rows.width (get_or o.rows.basis i d) narrow (h.fits i d l))
 
@@ -148,11 +144,14 @@ module _ (o : OverData) (h : HasRows o) (e : IsReduced o.rows) where
       digits : IsOfDigits (data_of o.curve) h.corners (o.power - s) S
       digits = record { prime = t.prime ∙ h.rows_prime; width = t.width ∙ ap (λ n. n * (o.power - s)) (count o h) }
 
-      pub less_rows : HasRows (record { curve = o.curve; dimension = o.dimension; power = o.power - s; rows = S })
+      less_rows : HasRows (record { curve = o.curve; dimension = o.dimension; power = o.power - s; rows = S })
       less_rows = lowered_rows o h s (o.power - s) (o.dimension * s) S (let q : o.power ≡ s + (o.power - s) = omega arith in q) refl digits lowered_is t.reduced
 
-      pub less_same : HaveSameFractions o (record { curve = o.curve; dimension = o.dimension; power = o.power - s; rows = S })
+      less_same : HaveSameFractions o (record { curve = o.curve; dimension = o.dimension; power = o.power - s; rows = S })
       less_same = lowered_fractions o h s (o.power - s) (o.dimension * s) S (let q : o.power ≡ s + (o.power - s) = omega arith in q) refl digits lowered_is
 
-      pub less_rank : length S.basis ≡ length o.rows.basis
+      less_rank : length S.basis ≡ length o.rows.basis
       less_rank = sym (same_rank (o.dimension * s) S o.rows (subst IsPrime (sym t.prime) rows_prime) lowered_is t.reduced e)
+
+    pub lowered_at : All (BeginsWithZeros (o.dimension * s)) o.rows.basis → AreRowsAt o (o.power - s) (map (drop (o.dimension * s)) o.rows.basis)
+    lowered_at begin = record { fit = lowered_fit; rows = less_rows begin; same = less_same begin; rank = less_rank begin }

@@ -1,6 +1,5 @@
 -- Sums of two modules over one power of d.
-use Rattle.std.proofs.Common.{◌≡◌, ◌↔◌, ℕ, ◌+◌, ◌-◌, ◌*◌, ◌%◌, ◌<◌, List, [], ◌∷◌, length, get_or, refl, sym, ap, ◌∙◌, subst, arith}
-use Rattle.std.proofs.Math.Nat.{mod-eq_of_lt}
+use Rattle.std.proofs.Common.{◌≡◌, ◌↔◌, ℕ, ◌+◌, ◌-◌, ◌*◌, ◌<◌, List, [], ◌∷◌, length, get_or, refl, ap, ◌∙◌, subst}
 use Rattle.comm_ring.specs.Ring.{CommRing}
 use Rattle.comm_ring.specs.Modules.{InSpan, IsSubmodule}
 use Rattle.comm_ring.specs.Rows.{rows}
@@ -27,6 +26,7 @@ use Rattle.row_space.specs.Subspace.{Subspace, IsIn, IsSumOf}
 use Rattle.digit_laws.specs.Digits.{AreCornersOf, AreDigits, IsIdealSpace, IsOfDigits, value}
 use Rattle.digit_laws.specs.Laws.{DigitsAreCoordinates}
 use Rattle.digit_laws.proofs.DigitLaws.{digit_law, value_poly, row_fits}
+use Rattle.digit_laws.proofs.Linear.{opposite_row}
 use Rattle.over_laws.specs.Over.{InRows}
 use Rattle.over_module.proofs.DepthRows.{known, in_rows, of_has, has_of, ideal_of_polys, x_times, x_product, x_poly, x_equal, x_in}
 
@@ -41,16 +41,6 @@ module _ (C : CommRing) where
 
   spread_out : (x a e b g : carrier) → x ⊗ (a ⊗ e ⊕ b ⊗ g) ≈ (x ⊗ a) ⊗ e ⊕ (x ⊗ b) ⊗ g
   spread_out x a e b g = ring C (x ∷ a ∷ e ∷ b ∷ g ∷ []) (search quote depth 20) tt
-
--- p - 1 times a row is its opposite
-opposite_row : (p width : ℕ) → 1 < p → (positive : 0 < p) → (y : List ℕ) → (rows p width).◌≋◌ ((rows p width).◌·◌ (p - 1) y) ((rows p width).opposite y)
-opposite_row p width high positive y = let R = row_module p positive width in R.trans (R.scale_cong {x = y} {x' = y} same (R.rfl y)) (Modules.opposite_is (residues p positive) R y)
-  where
-    same : (p - 1) % p ≡ ((p - 1 % p) % p) % p
-    same =
-        let one : 1 % p ≡ 1 = mod-eq_of_lt high in
-        let less : (p - 1) % p ≡ p - 1 = mod-eq_of_lt (omega arith) in
-        sym (ap (λ z. ((p - z) % p) % p) one ∙ ap (λ z. z % p) less)
 
 -- the space by its prime and width under other names
 pub by_other_names : (s : Subspace) (p n : ℕ) → s.prime ≡ p → s.width ≡ n → (let other : Subspace = record { prime = p; width = n; basis = s.basis } in s ≡ other)

@@ -2,7 +2,7 @@
 use Rattle.std.proofs.Common.{◌≡◌, ℕ, zero, suc, ◌+◌, ◌-◌, ◌*◌, ◌%◌, ◌<◌, ◌≤◌, List, [], ◌∷◌, map, length, get_or, drop, replicate, All, refl, sym, ap, ap₂, ◌∙◌, subst, arith, ⊎_elim}
 use Rattle.std.proofs.lemmas.Bool.{cases_lt}
 use Rattle.std.proofs.lemmas.List.{length-append, length-replicate, length-map, length-drop, get_or-replicate, get_or-append_right, get_or_append_left, get_or-drop, get_or_default}
-use Rattle.std.proofs.lemmas.List.Elements.{All-head, All-tail, All-append}
+use Rattle.std.proofs.lemmas.List.Elements.{All-head, All-tail, All-append, All-map}
 use Rattle.std.proofs.Math.Nat.{mod-eq_of_lt, zero-mod, mod-mod}
 use Rattle.comm_ring.specs.Modules.{InSpan, Independent}
 use Rattle.comm_ring.specs.Residues.{residue_ops}
@@ -83,6 +83,9 @@ longer p z w wide row h e f = (
       let l : length row ≡ w = f.0 in omega arith),
   All-append (λ x. x < p) (replicate z 0) row (zeros_small p z h) f.1,
 )
+
+pub all_longer : (p z w wide : ℕ) (us : List (List ℕ)) → 0 < p → wide ≡ z + w → All (IsRow p w) us → All (IsRow p wide) (map (behind_zeros z) us)
+all_longer p z w wide us h e f = All-map (IsRow p wide) (behind_zeros z) us (λ i d l. longer p z w wide (get_or us i d) h e (f i d l))
 
 pub shorter : (p z w wide : ℕ) (row : List ℕ) → wide ≡ z + w → IsRow p wide row → IsRow p w (drop z row)
 shorter p z w wide row e f = (

@@ -1,11 +1,12 @@
 -- Modules over another power of d.
-use Rattle.std.specs.Prelude.{◌≡◌, ◌↔◌, ℕ, ◌+◌, List, ◌++◌, length, drop, replicate}
+use Rattle.std.specs.Prelude.{◌≡◌, ◌↔◌, ℕ, ◌+◌, ◌*◌, List, ◌++◌, length, drop, replicate, All}
 use Rattle.comm_ring.specs.Modules.{InSpan}
 use Rattle.comm_ring.specs.Rows.{rows}
 use Rattle.polys.specs.Curve.{data_of}
 use Rattle.curve_model.specs.Fraction.{Fraction, IsFraction}
+use Rattle.row_space.specs.Echelon.{IsRow}
 use Rattle.row_space.specs.Subspace.{Subspace, FitsIn, IsIn, IsReduced}
-use Rattle.over_laws.specs.Over.{OverData, InOver, HaveSameFractions}
+use Rattle.over_laws.specs.Over.{OverData, InOver, HasRows, HaveSameFractions}
 
 -- so many zeros, and then the row
 abbrev pub behind_zeros : ℕ → List ℕ → List ℕ
@@ -37,6 +38,17 @@ pub record IsAtPower (o : OverData) (K : ℕ) (q : OverData) : Type 0 where
   pub power : q.power ≡ K
   pub same : HaveSameFractions o q
   pub rank : length q.rows.basis ≡ length o.rows.basis
+
+-- the module with other rows over another power of d
+abbrev pub with_rows : OverData → ℕ → Subspace → OverData
+with_rows o K S = record { curve = o.curve; dimension = o.dimension; power = K; rows = S }
+
+-- rows over d^K that span the same fractions, a space of as many rows
+pub record AreRowsAt (o : OverData) (K : ℕ) (vs : List (List ℕ)) : Type 0 where
+  pub fit : All (IsRow o.rows.prime (o.dimension * K)) vs
+  pub rows : (S : Subspace) → IsSpannedBy o.rows.prime (o.dimension * K) vs S → HasRows (with_rows o K S)
+  pub same : (S : Subspace) → IsSpannedBy o.rows.prime (o.dimension * K) vs S → HaveSameFractions o (with_rows o K S)
+  pub rank : (S : Subspace) → IsSpannedBy o.rows.prime (o.dimension * K) vs S → length S.basis ≡ length o.rows.basis
 
 -- the fractions of q are in o
 abbrev pub HoldsFractions : OverData → OverData → Type 0

@@ -7,7 +7,7 @@ ghost use Rattle.over_laws.specs.Over.{InOver, HaveSameFractions};
 ghost use Rattle.over_module.specs.Raising.{HoldsFractions};
 
 use super::over::Over;
-use super::raising::behind;
+use super::rows::behind;
 use digit_space::Digits;
 use lists::{List, NoMemory};
 use polys::Poly;

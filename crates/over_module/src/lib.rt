@@ -1,19 +1,15 @@
-//! Modules of fractions between A and A over a power of d, by rows of digits; what the work on a point comes to; and A modulo d
-//! as an algebra.
+//! Modules of fractions between A and A over a power of d, by rows of digits; and what the work on a point comes to.
 #![tactic(auto)]
 
 mod adding;
-mod base;
 mod comparing;
-mod complement;
 mod done;
 mod lowering;
 mod over;
 mod plain;
-mod quotient;
 mod raising;
-mod table;
+mod rows;
 
-pub use base::base_algebra;
 pub use done::{Done, Verdict};
 pub use over::Over;
+pub use rows::{all_behind, behind, entries, filled, multiples_of, spanned};

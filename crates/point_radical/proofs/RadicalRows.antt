@@ -1,5 +1,5 @@
 -- The rows of the radical: sums of rows of products, and of the rows of nilpotent elements.
-use Rattle.std.proofs.Common.{◌≡◌, ◌↔◌, ℕ, suc, ◌+◌, ◌*◌, ◌<◌, List, [], ◌∷◌, ◌++◌, map, length, get_or, All, sym, ◌∙◌, subst, arith, mod-lt}
+use Rattle.std.proofs.Common.{◌≡◌, ◌↔◌, ℕ, suc, ◌+◌, ◌*◌, ◌<◌, List, [], ◌∷◌, ◌++◌, map, length, get_or, All, sym, ◌∙◌, subst, arith}
 use Rattle.std.proofs.lemmas.List.{length-map}
 use Rattle.std.proofs.lemmas.List.Elements.{All-from_get_or, All-map}
 use Rattle.comm_ring.specs.Ring.{CommRing}
@@ -34,15 +34,8 @@ use Rattle.frobenius_map.specs.Nilpotent.{IsRadicalOf}
 use Rattle.over_laws.specs.Over.{OverData, InOver, InRows, HasRows}
 use Rattle.quotient_laws.specs.OverQuotients.{IsRadicalRow}
 use Rattle.finite_algebra.proofs.Images.{product_linear}
-use Rattle.finite_algebra.proofs.Products.{row_fits}
+use Rattle.finite_algebra.proofs.Summing.{combination_fits}
 use Rattle.finite_algebra.proofs.Totals.{IsLinear, linear-origin}
-
--- sums of multiples of rows are rows of residues
-pub sums_fit : (p n : ℕ) → 0 < p → (cs : List ℕ) (us : List (List ℕ)) → IsRow p n (combination (rows p n) cs us)
-unfolding combine
-sums_fit p n positive [] us = row_fits p n (λ _. 0) (λ t h. positive)
-sums_fit p n positive (c ∷ cs) [] = row_fits p n (λ _. 0) (λ t h. positive)
-sums_fit p n positive (c ∷ cs) (u ∷ us) = row_fits p n _ (λ t h. mod-lt _ positive)
 
 module _ (p : ℕ) (positive : 0 < p) (n W : ℕ) where
   abbrev K : CommRing
@@ -98,7 +91,7 @@ module _ (p : ℕ) (positive : 0 < p) (n W : ℕ) where
         let rest : (rows p W).◌≋◌ ((rows p W).◌⊞◌ row o) u = High.trans {x = (rows p W).◌⊞◌ row o} {y = (rows p W).◌⊞◌ ((rows p W).◌⊞◌ u z) o} {z = u}
         (High.add_cong {x = row} {x' = (rows p W).◌⊞◌ u z} {y = o} {y' = o} sum (High.rfl o)) (Modules.add_undo K High u z) in
         let m : length second ≡ length nilpotent = let a = length-map nilpotent (λ x. product p W x list) in let b : length second ≡ length images = q.3 in omega arith in
-        (y, sums_fit p n positive second nilpotent, (second, m, Low.rfl y), (first, q.2, rest))
+        (y, combination_fits p n positive second nilpotent, (second, m, Low.rfl y), (first, q.2, rest))
 
     pub joined : (row y : List ℕ) → InSpan (rows p n) nilpotent y → InSpan (rows p W) basis ((rows p W).◌⊞◌ row ((rows p W).opposite (product p W y list)))
         → InSpan (rows p W) (basis ++ map (λ x. product p W x list) nilpotent) row
@@ -208,4 +201,4 @@ radical_ideal o h r ms corners P polys radical d exact = ideal_of_polys A c ms c
 
 -- the images are rows of residues
 pub images_fit : (p W : ℕ) → 0 < p → (list elements : List (List ℕ)) → All (IsRow p W) (map (λ x. product p W x list) elements)
-images_fit p W positive list elements = All-map (IsRow p W) (λ x. product p W x list) elements (λ i x l. sums_fit p W positive (get_or elements i x) list)
+images_fit p W positive list elements = All-map (IsRow p W) (λ x. product p W x list) elements (λ i x l. combination_fits p W positive (get_or elements i x) list)

@@ -11,10 +11,11 @@ ghost use Rattle.over_laws.specs.Over.{InOver, InRows};
 
 use curve_model::Point;
 use digit_space::Digits;
-use finite_algebra::image;
+use finite_algebra::images_of;
 use frobenius_split::radical;
 use lists::{List, NoMemory};
 use over_module::Over;
+use point_quotient::{products, quotient_by};
 use prime_field::Prime;
 use quotient_laws::laws::rows_give_quotients;
 use row_space::Space;
@@ -32,26 +33,7 @@ fn fronts(alloc: Global, width: usize, rows: &[List<u32>]) -> Result<List<List<u
     Ok(made)
 }
 
-// The sums of the rows by the coordinates of each of the elements.
-fn images(
-    alloc: Global,
-    prime: Prime,
-    width: usize,
-    rows: &[List<u32>],
-    elements: &[List<u32>],
-) -> Result<List<List<u32>>, NoMemory>
-    requires rows { All (IsRow prime width) rows.now }
-    requires elements { All (IsRow prime (length rows.now)) elements.now }
-    ensures { IfOk result (λ made. made ≡ map (λ x. product prime width x rows.now) elements.now) }
-{
-    let mut made = List::new(alloc);
-    for element in elements {
-        made.push(image(alloc, prime, rows, width, element.as_slice())?)?;
-    }
-    Ok(made)
-}
-
-// Adds these sums to the space.
+// Adds to the space the sums of the rows by the coordinates of each of the elements.
 fn join_images(
     alloc: Global,
     prime: Prime,
@@ -67,7 +49,7 @@ fn join_images(
     ensures { OnOk result (Joins space.old (map (λ x. product prime width x rows.now) elements.now) space.new) }
 {
     let _known = prime.get();
-    let made = images(alloc, prime, width, rows, elements)?;
+    let made = images_of(alloc, prime, rows, width, elements)?;
     space.add_rows(made.as_slice())?;
     Ok(())
 }
@@ -97,8 +79,8 @@ pub fn point_radical(digits: &Digits, over: &Over, point: &Point) -> Result<Spac
     let _known = over.rows();
     let alloc = digits.allocator();
     let prime = digits.curve().prime;
-    let mut space = over.products(digits, point)?;
-    let (algebra, rows) = over.quotient_by(digits, &space)?;
+    let mut space = products(digits, over, point)?;
+    let (algebra, rows) = quotient_by(digits, over, &space)?;
     let nilpotent = radical(&algebra)?;
     let width = basis.len() * (over.power() as usize + 1);
     let list = fronts(alloc, width, rows.as_slice())?;

@@ -11,7 +11,7 @@ use Rattle.curve_model.specs.Fraction.{Fraction, IsFraction, InA, over, product_
 use Rattle.curve_model.specs.Closure.{InModule}
 use Rattle.curve_model.specs.Laws.{IsFinite, ArePolys}
 use Rattle.curve_model.specs.Rings.{IsFractionRing, InRadical}
-use Rattle.finite_algebra.specs.Elements.{FiniteAlgebra, IsAlgebra, IsElement, times, ring_of}
+use Rattle.finite_algebra.specs.Elements.{FiniteAlgebra, IsAlgebra, IsElement, times, ring_of, IsNilpotent}
 use Rattle.finite_algebra.proofs.Totals.{linear-origin}
 use Rattle.finite_algebra.proofs.Units.{along, along_linear}
 use Rattle.finite_algebra.proofs.Products.{pow_fits}
@@ -19,7 +19,7 @@ use Rattle.curve_laws.proofs.Chains.{chain, flip, mul_both}
 use Rattle.curve_laws.proofs.StatedLaws.{product_poly}
 use Rattle.curve_laws.proofs.DescentLaws.{radical_up, radical_down}
 use Rattle.chain_laws.proofs.ChainLaws.{one_poly}
-use Rattle.quotient_laws.specs.Quotients.{fraction_of, DifferByProducts, IsQuotientAt, IsNilpotentIn, NilpotentsAreRadical}
+use Rattle.quotient_laws.specs.Quotients.{fraction_of, DifferByProducts, IsQuotientAt, NilpotentsAreRadical}
 use Rattle.quotient_laws.proofs.FractionQuotients.{N, inside}
 use Rattle.quotient_laws.proofs.Quotients.{Quotient, F, M, at, inner, fraction_poly, member_in, worth_inner, differ_up, product_inside, one_inside, none_down, none_up, none_from, positive}
 
@@ -81,7 +81,7 @@ module _ (A : CurveData) (c : IsFinite A) (P : List (List Term)) (p : ArePolys A
       powers m = chain C (pow C.ops v m) (pow C.ops (of x) m) (of (pow (ring_of a) x m))
           (Derived.pow_cong C {x = v} {y = of x} m (differ_up A c P p K L l r holds f (fraction x) h (poly x) b (is_in x) w)) (power_is x hx m)
 
-      into : InRadical A P (InModule A K L) f → IsNilpotentIn a x
+      into : InRadical A P (InModule A K L) f → IsNilpotent a x
       into s =
           let u = radical_up A c K L l P p f h s in
           let m = u.1.0 in
@@ -91,7 +91,7 @@ module _ (A : CurveData) (c : IsFinite A) (P : List (List Term)) (p : ArePolys A
           let zeros : All (λ t. t ≡ 0) y = q.zero y (pow_fits a (positive A c P p K L l r holds) algebra x m) (none_down A c P p K L l r holds (fraction y) (poly y) (is_in y) e) in
           (m, λ i g. ap (λ t. t % A.prime) (zeros i 0 (let fit = (pow_fits a (positive A c P p K L l r holds) algebra x m).0 in omega arith) ∙ sym (row-entry n (λ _. 0) i g)))
 
-      out : IsNilpotentIn a x → InRadical A P (InModule A K L) f
+      out : IsNilpotent a x → InRadical A P (InModule A K L) f
       out z =
           let m = z.0 in
           let y = pow (ring_of a) x m in
@@ -113,6 +113,6 @@ nilpotent_law A c P p K L l r holds k a us algebra q f h b x hx w =
     with_prime e = record { prime = e; dimension = a.dimension; one = a.one; products = a.products }
 
     law : (e : ℕ) → e ≡ A.prime → IsAlgebra (with_prime e) → IsQuotientAt A P k (InModule A K L) (with_prime e) us → IsElement (with_prime e) x
-        → InRadical A P (InModule A K L) f ↔ IsNilpotentIn (with_prime e) x
-    law e path = subst (λ e. IsAlgebra (with_prime e) → IsQuotientAt A P k (InModule A K L) (with_prime e) us → IsElement (with_prime e) x → InRadical A P (InModule A K L) f ↔ IsNilpotentIn (with_prime e) x) (sym path)
+        → InRadical A P (InModule A K L) f ↔ IsNilpotent (with_prime e) x
+    law e path = subst (λ e. IsAlgebra (with_prime e) → IsQuotientAt A P k (InModule A K L) (with_prime e) us → IsElement (with_prime e) x → InRadical A P (InModule A K L) f ↔ IsNilpotent (with_prime e) x) (sym path)
         (λ algebra q hx. (into A c P p K L l r holds k a.dimension a.one a.products us algebra q f h b x hx w, out A c P p K L l r holds k a.dimension a.one a.products us algebra q f h b x hx w))

@@ -21,11 +21,11 @@ use Rattle.chain_laws.proofs.ChainLaws.{transfer}
 use Rattle.chain_laws.proofs.OneExponent.{eq_refl, eq_sym, numbers_poly}
 use Rattle.digit_laws.specs.Digits.{AreCornersOf, AreDigits, IsOfDigits}
 use Rattle.digit_laws.proofs.Corners.{corners_law}
-use Rattle.finite_algebra.specs.Elements.{FiniteAlgebra, IsAlgebra, IsElement}
+use Rattle.finite_algebra.specs.Elements.{FiniteAlgebra, IsAlgebra, IsElement, IsNilpotent}
 use Rattle.over_laws.specs.Over.{OverData, InOver, InRows, HasRows}
 use Rattle.over_laws.specs.Laws.{RowsAreModule}
 use Rattle.over_laws.proofs.Rows.{rows_law}
-use Rattle.quotient_laws.specs.Quotients.{fraction_of, DifferByProducts, IsQuotientAt, IsNilpotentIn}
+use Rattle.quotient_laws.specs.Quotients.{fraction_of, DifferByProducts, IsQuotientAt}
 use Rattle.quotient_laws.specs.ProductRows.{HoldsCurve, IsProductSpace}
 use Rattle.quotient_laws.specs.QuotientRows.{AreMemberRows, AreQuotientRows}
 use Rattle.quotient_laws.specs.OverQuotients.{HoldsProducts, ProductSpacesHoldProducts, QuotientRowsAreAlgebras, IsRadicalRow, RadicalsByRows}
@@ -96,7 +96,7 @@ module _ (o : OverData) (h : HasRows o) (r : IsFractionRing (data_of o.curve) (I
     algebra : IsAlgebra a × IsQuotientAt A P k B a us
     algebra = (here.0, quotient_moved A P M B back k a us here.1)
 
-    nilpotent : (f : Fraction) → IsFraction A f → B f → (x : List ℕ) → IsElement a x → DifferByProducts A P B f (fraction_of A k us x) → InRadical A P M f ↔ IsNilpotentIn a x
+    nilpotent : (f : Fraction) → IsFraction A f → B f → (x : List ℕ) → IsElement a x → DifferByProducts A P B f (fraction_of A k us x) → InRadical A P M f ↔ IsNilpotent a x
     nilpotent f hf b x hx d = nilpotent_law A c P point.polys k L module_of.is_module.polys ring_here holds k a us here.0 here.1 f hf ((same f hf).0 b) x hx (product_moved A P B M same _ d)
 
     -- the fractions of the elements are in the ring

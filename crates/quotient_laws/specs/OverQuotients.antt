@@ -10,9 +10,9 @@ use Rattle.row_space.specs.Subspace.{Subspace, IsIn, DifferIn}
 use Rattle.curve_model.specs.Fraction.{Fraction, IsFraction}
 use Rattle.curve_model.specs.Rings.{IsFractionRing, IsProduct, InRadical}
 use Rattle.digit_laws.specs.Digits.{AreCornersOf, IsOfDigits}
-use Rattle.finite_algebra.specs.Elements.{FiniteAlgebra, IsAlgebra, IsElement}
+use Rattle.finite_algebra.specs.Elements.{FiniteAlgebra, IsAlgebra, IsElement, IsNilpotent}
 use Rattle.over_laws.specs.Over.{OverData, InOver, InRows, HasRows}
-use Rattle.quotient_laws.specs.Quotients.{IsNilpotentIn, IsQuotientAt}
+use Rattle.quotient_laws.specs.Quotients.{IsQuotientAt}
 use Rattle.quotient_laws.specs.ProductRows.{HoldsCurve, IsProductSpace}
 use Rattle.quotient_laws.specs.QuotientRows.{AreMemberRows, AreQuotientRows}
 
@@ -40,7 +40,7 @@ QuotientRowsAreAlgebras =
 pub record IsRadicalRow (o : OverData) (ms : List Monomial) (space : Subspace) (a : FiniteAlgebra) (list : List (List ℕ)) (row : List ℕ) : Type 0 where
   pub element : List ℕ
   pub fits : IsElement a element
-  pub nilpotent : IsNilpotentIn a element
+  pub nilpotent : IsNilpotent a element
   pub near : DifferIn space row (combination (rows o.curve.prime (length ms * suc o.power)) element list)
 
 -- these rows are the numerators of the radical

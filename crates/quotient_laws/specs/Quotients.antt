@@ -5,14 +5,12 @@ use Rattle.polys.specs.declared.term.Term.{Term}
 use Rattle.polys.specs.Terms.{one}
 use Rattle.polys.specs.Ideal.{number_combination}
 use Rattle.polys.specs.Curve.{CurveData}
-use Rattle.comm_ring.specs.Ring.{pow}
-use Rattle.row_space.specs.Subspace.{IsZero}
 use Rattle.curve_model.specs.Fraction.{Fraction, IsFraction, InA, over, product_of}
 use Rattle.curve_model.specs.Closure.{InModule}
 use Rattle.curve_model.specs.Laws.{IsFinite, ArePolys}
 use Rattle.curve_model.specs.Rings.{IsFractionRing, IsProduct, InRadical}
 use Rattle.curve_model.specs.Enlarging.{difference_of}
-use Rattle.finite_algebra.specs.Elements.{FiniteAlgebra, IsAlgebra, IsElement, times, ring_of}
+use Rattle.finite_algebra.specs.Elements.{FiniteAlgebra, IsAlgebra, IsElement, times, IsNilpotent}
 
 -- the fraction with these coordinates: the sum of the numerators, each times its coordinate, over d^k
 abbrev pub fraction_of : CurveData → ℕ → List (List Term) → List ℕ → Fraction
@@ -59,10 +57,6 @@ QuotientProductsAreAlgebras =
     → (k : ℕ) (a : FiniteAlgebra) (us : List (List Term)) → HasQuotientProducts A P k (InModule A K L) a us
     → IsAlgebra a × IsQuotientAt A P k (InModule A K L) a us
 
--- a power of the element is 0
-abbrev pub IsNilpotentIn : FiniteAlgebra → List ℕ → Type 0
-IsNilpotentIn a x = (n : ℕ) × IsZero a.prime a.dimension (pow (ring_of a) x n)
-
 -- a fraction of B is in the radical of PB exactly where the element that stands for it is nilpotent
 abbrev pub NilpotentsAreRadical : Type 0
 NilpotentsAreRadical =
@@ -70,4 +64,4 @@ NilpotentsAreRadical =
     → IsFractionRing A (InModule A K L) → ((f : Fraction) → IsFraction A f → InA A f → InModule A K L f)
     → (k : ℕ) (a : FiniteAlgebra) (us : List (List Term)) → IsAlgebra a → IsQuotientAt A P k (InModule A K L) a us
     → (f : Fraction) → IsFraction A f → InModule A K L f → (x : List ℕ) → IsElement a x → DifferByProducts A P (InModule A K L) f (fraction_of A k us x)
-    → InRadical A P (InModule A K L) f ↔ IsNilpotentIn a x
+    → InRadical A P (InModule A K L) f ↔ IsNilpotent a x

@@ -8,7 +8,7 @@ use Rattle.digit_laws.specs.Digits.{IsIdealSpace}
 use Rattle.over_laws.specs.Over.{HasRows, InOver, InRows, OverData, TakesIntoItself}
 use Rattle.endo_ring.specs.Taken.{IsTaken}
 use Rattle.over_module.proofs.Facts.{finite}
-use Rattle.endo_ring.proofs.Sums.{reduced_independent}
+use Rattle.over_module.proofs.ZeroRows.{independent_of}
 use Rattle.endo_ring.proofs.Generators.{all_terms}
 use Rattle.endo_ring.proofs.Taking.{result}
 use Rattle.endo_ring.proofs.enlarging.endomorphisms.Goals as goal
@@ -46,7 +46,7 @@ module_is c =
       rows_prime = o.prime;
       rows_width = o.width ∙ ap (λ n. n * (c.power-blocks.result + 1)) (sym c.dimension.ensures.corners);
       fits = c.rows-rows.ensures.reduced.1.rows;
-      independent = reduced_independent c.in_ok-found.found c.rows-rows.ensures.reduced;
+      independent = independent_of c.in_ok-found.found c.rows-rows.ensures.reduced;
       corners = g.basis;
       known = s.corners;
       ideal = (whole c).0;

@@ -3,17 +3,39 @@ use Rattle.std.proofs.lemmas.List.Elements.{All-nil}
 use Rattle.std.proofs.Math.Seq.{take-length}
 use Rattle.polys.specs.Curve.{data_of}
 use Rattle.row_space.specs.Subspace.{IsIn}
-use Rattle.endo_ring.specs.Taken.{IsAfterZeros, IsTaken}
+use Rattle.row_space.specs.Echelon.{IsRow}
+use Rattle.over_module.specs.Raising.{IsRaised, IsSpannedBy}
+use Rattle.endo_ring.specs.Taken.{IsTaken}
 use Rattle.over_module.proofs.Facts.{finite}
 use Rattle.endo_ring.proofs.Generators.{all_more, taken_is}
 use Rattle.endo_ring.proofs.narrowing.solutions.Goals as goal
+use Rattle.endo_ring.proofs.narrowing.solutions.Goals.{After-rows, In_ok-found}
+
+width_is : (c : After-rows) → c.entries-width.result ≡ c.args.ideal.now.width
+width_is c = c.entries-width.ensures.value ∙ sym c.requires.ideal.width
+
+pub spanned-requires : goal.spanned-requires
+spanned-requires c =
+    let ideal = c.args.ideal.now in
+    subst (All (IsRow c.prime.result c.entries-width.result)) (sym c.rows.ensures.basis)
+    (subst (λ w. All (IsRow c.prime.result w) ideal.basis) (sym (width_is (goal.at.spanned-requires c).After-rows))
+    (subst (λ p. All (IsRow p ideal.width) ideal.basis) (sym c.prime.ensures) c.rows.ensures.reduced.1.rows))
+
+-- at first all rows of the ideal are left
+again : (c : In_ok-found) → IsSpannedBy c.args.ideal.now.prime c.args.ideal.now.width c.args.ideal.now.basis c.in_ok-found.found
+again c =
+    let ideal = c.args.ideal.now in
+    let found = c.in_ok-found.found in
+    subst (λ p. IsSpannedBy p ideal.width ideal.basis found) c.prime.ensures
+    (subst (λ w. IsSpannedBy c.prime.result w ideal.basis found) (c.entries-width.ensures.value ∙ sym c.requires.ideal.width)
+    (subst (λ us. IsSpannedBy c.prime.result c.entries-width.result us found) c.rows.ensures.basis c.in_ok-found.ensures))
 
 pub loop-i-init : goal.loop-i-init
 loop-i-init c =
     let g = c.args.digits.now in
-    let e = c.in_ok-found.ensures in
+    let e = again (goal.at.loop-i-init c).In_ok-found in
     record {
-      of_digits = record { prime = e.shape.0 ∙ c.requires.ideal.prime; width = e.shape.1 ∙ c.requires.ideal.width };
+      of_digits = record { prime = e.prime ∙ c.requires.ideal.prime; width = e.width ∙ c.requires.ideal.width };
       members = λ row h. (
         λ x. ((e.members row).0 x, All-nil (λ v. IsTaken (data_of g.curve) g.basis c.args.blocks c.args.ideal.now v.terms row)),
         λ x. (e.members row).1 x.0,
@@ -31,7 +53,7 @@ loop-i-preserved c =
     let i = c.loop-i.i in
     let v = c.index-generators-i.result in
     let is = c.index-generators-i.is in
-    let a = subst (λ n. IsAfterZeros n ideal target) c.entries-width.ensures.value c.in_ok-target.ensures in
+    let a = subst (λ n. IsRaised n ideal target) c.entries-width.ensures.value c.in_ok-target.ensures in
     record {
       of_digits = c.in_ok-found-2.ensures.of_digits;
       members = λ row h.

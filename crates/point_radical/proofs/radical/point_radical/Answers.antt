@@ -9,7 +9,7 @@ use Rattle.digit_space.specs.Model.{value_of}
 use Rattle.over_laws.specs.Over.{InOver, InRows}
 use Rattle.row_space.specs.Echelon.{IsRow}
 use Rattle.row_space.specs.Subspace.{Joins, product}
-use Rattle.over_module.proofs.Numerators.{point_holds}
+use Rattle.point_quotient.proofs.Numerators.{point_holds}
 use Rattle.point_radical.proofs.RadicalRows.{radical_rows, radical_ideal}
 use Rattle.point_radical.proofs.radical.point_radical.Goals as goal
 use Rattle.point_radical.proofs.radical.point_radical.Goals.{In_ok-list, After-drop-algebra-inside-3}

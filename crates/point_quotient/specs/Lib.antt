@@ -1,0 +1,3 @@
+pub mod Algebras
+pub mod Complements
+pub mod Quotients
