@@ -1,0 +1,4 @@
+pub mod Book
+pub mod Inside
+pub mod Answers
+pub mod Sums
