@@ -19,7 +19,7 @@ pub five : (a b c d e o1 o2 o3 o4 o5 : List ℕ) → o1 ≡ [] ++ a → o2 ≡ o
 five a b c d e o1 o2 o3 o4 o5 h1 h2 h3 h4 h5 = rw (h5, h4, h3, h2, h1) refl
 
 -- polynomials over one prime have their texts over it
-texts : (p : ℕ) (letters : List ℕ) (fs : List Polynomial) → All (λ f. f.prime ≡ p) fs
+pub texts : (p : ℕ) (letters : List ℕ) (fs : List Polynomial) → All (λ f. f.prime ≡ p) fs
     → map (λ f. poly_text f.prime letters f.terms) fs ≡ map (poly_text p letters) (map (λ f. f.terms) fs)
 texts p letters [] same = refl
 texts p letters (f ∷ fs) same =

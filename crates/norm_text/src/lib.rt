@@ -6,7 +6,7 @@ pub mod laws;
 mod printing;
 
 pub use answer::{Answer, PointLine};
-pub use printing::print_answer;
+pub use printing::{print_answer, print_list};
 
 #[cfg(test)]
 mod tests;

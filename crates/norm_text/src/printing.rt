@@ -60,8 +60,11 @@ fn print_letters(letters: &[u8], out: &mut List<u8>) -> Result<(), NoMemory>
     Ok(())
 }
 
-// Polynomials with a comma and a blank between neighbours.
-fn print_list(letters: &Letters, polys: &[Poly], out: &mut List<u8>) -> Result<(), NoMemory>
+/// Appends the text of a list of polynomials: their texts, each over its own prime, with a comma and a blank between neighbours.
+///
+/// # Errors
+/// Want of memory.
+pub fn print_list(letters: &Letters, polys: &[Poly], out: &mut List<u8>) -> Result<(), NoMemory>
     ensures { OnOk result (out.new ≡ out.old ++ join (codes ", ") (map (λ f. poly_text f.prime letters.now f.terms) polys.now)) }
 {
     let mut is_first = true;
