@@ -2,7 +2,11 @@
 pub mod Plain
 -- for the crates above: texts of lists
 pub mod Pieces
+-- for the crates above: that named points are distinct points
+pub mod Meaning
+-- for the crates above: a problem has one list of named points
+pub mod OneList
 -- for this crate alone
+mod OneAnswer
 mod Joins
-mod Meaning
 mod NamedExamples

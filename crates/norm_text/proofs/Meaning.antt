@@ -23,13 +23,13 @@ use Rattle.norm_text.specs.Answers.{IsAnswer}
 use Rattle.norm_text.specs.Meaning.{ModulesAreIntegral, ModulesAreLocal, PowersAreLeast}
 
 -- no text comes before itself
-same_text : (xs : List ℕ) → slice_cmp nat_cmp xs xs ≡ Equal
+pub same_text : (xs : List ℕ) → slice_cmp nat_cmp xs xs ≡ Equal
 same_text [] = refl
 same_text (x ∷ xs) = rw (level x) (same_text xs)
 
 module _ (problem : ProblemData) (A : CurveData) (S : List (List (List Term))) (h : IsNamedList problem A S) where
   -- points whose texts rise are distinct
-  distinct : AllPairs (λ P R. P ≢ R) S
+  pub distinct : AllPairs (λ P R. P ≢ R) S
   distinct i j d less within e =
       let text = list_text problem.prime problem.letters in
       let inside : i < length S = omega arith in
@@ -42,20 +42,20 @@ module _ (problem : ProblemData) (A : CurveData) (S : List (List (List Term))) (
       in
       absurd (cc)
 
-  named_points : All (IsPoint A) S
+  pub named_points : All (IsPoint A) S
   named_points = All-weaker (Contains S) (IsPoint A) (λ P k. ((h.all P).0 k).point) S (All-contains_itself S)
 
-  named_are_points : ArePoints A S
+  pub named_are_points : ArePoints A S
   named_are_points = record { points = named_points; distinct = distinct }
 
   -- where no points are named, the list has exactly the points
-  are_the_points : problem.at ≡ [] → AreThePoints A S
+  pub are_the_points : problem.at ≡ [] → AreThePoints A S
   are_the_points none = record {
     exact = λ P. (λ k. ((h.all P).0 k).point, λ k. (h.all P).1 (record { point = k; named = inl none }));
     distinct = distinct;
   }
 
-finite_of : (problem : ProblemData) (d : List Term) → IsRegular (curve_of problem d) → (a : AnswerData) → IsAnswer problem d a → IsFinite (curve_of problem d)
+pub finite_of : (problem : ProblemData) (d : List Term) → IsRegular (curve_of problem d) → (a : AnswerData) → IsAnswer problem d a → IsFinite (curve_of problem d)
 finite_of problem d c a h = record { curve = c; dimension = (a.dimension, h.dimension) }
 
 pub integral_law : ModulesAreIntegral

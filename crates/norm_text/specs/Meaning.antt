@@ -9,7 +9,7 @@ use Rattle.curve_model.specs.Laws.{IsRegular}
 use Rattle.problem.specs.Problem.{ProblemData, curve_of}
 use Rattle.norm_text.specs.Named.{IsNamedList}
 use Rattle.norm_text.specs.Answer.{AnswerData}
-use Rattle.norm_text.specs.Answers.{IsAnswer}
+use Rattle.norm_text.specs.Answers.{IsAnswer, IsAnswerText}
 
 -- where no points are named, a fraction lies in the printed module exactly where it is integral
 abbrev pub ModulesAreIntegral : Type 0
@@ -29,3 +29,12 @@ abbrev pub PowersAreLeast : Type 0
 PowersAreLeast =
     (problem : ProblemData) (d : List Term) → IsRegular (curve_of problem d) → problem.at ≡ [] → (a : AnswerData) → IsAnswer problem d a
     → (k : ℕ) → k < a.power → ((f : Fraction) → IsFraction (curve_of problem d) f → Integral (curve_of problem d) f → EqualsOver (curve_of problem d) k f) → ⊥
+
+-- a problem with a denominator has one answer, and so one text
+abbrev pub AnswersAreOne : Type 0
+AnswersAreOne =
+    (problem : ProblemData) (d : List Term) → IsRegular (curve_of problem d) → (a b : AnswerData) → IsAnswer problem d a → IsAnswer problem d b → a ≡ b
+
+abbrev pub TextsAreOne : Type 0
+TextsAreOne =
+    (problem : ProblemData) (d : List Term) → IsRegular (curve_of problem d) → (s t : List ℕ) → IsAnswerText problem d s → IsAnswerText problem d t → s ≡ t

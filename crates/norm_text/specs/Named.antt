@@ -19,3 +19,8 @@ pub record IsNamed (problem : ProblemData) (A : CurveData) (P : List (List Term)
 pub record IsNamedList (problem : ProblemData) (A : CurveData) (S : List (List (List Term))) : Type 0 where
   pub all : (P : List (List Term)) → Contains S P ↔ IsNamed problem A P
   pub rising : AllPairs (λ a b. slice_cmp nat_cmp a b ≡ Less) (map (list_text problem.prime problem.letters) S)
+
+-- a problem has one list of named points
+abbrev pub OneNamedList : Type 0
+OneNamedList =
+    (problem : ProblemData) (A : CurveData) (S T : List (List (List Term))) → IsNamedList problem A S → IsNamedList problem A T → S ≡ T

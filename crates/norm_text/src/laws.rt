@@ -1,7 +1,8 @@
 // The laws of answers: each function has an empty body, and its contract is the law.
 ghost use Rattle.norm_text.specs.Plain.{PlainAnswers};
 ghost use Rattle.norm_text.specs.Examples.{AtNames, AtPassesBy};
-ghost use Rattle.norm_text.specs.Meaning.{ModulesAreIntegral, ModulesAreLocal, PowersAreLeast};
+ghost use Rattle.norm_text.specs.Meaning.{ModulesAreIntegral, ModulesAreLocal, PowersAreLeast, AnswersAreOne, TextsAreOne};
+ghost use Rattle.norm_text.specs.Named.{OneNamedList};
 
 /// Where nothing is left modulo a regular denominator and no points are named, the ring is its own closure: there is no
 /// point, the power is 0, and the one numerator is 1.
@@ -16,6 +17,13 @@ pub fn answers_decide_integrality()
     ensures integral { ModulesAreIntegral }
     ensures least { PowersAreLeast }
     ensures local { ModulesAreLocal }
+{}
+
+/// A problem has one list of named points, and with a denominator one answer and one text of it.
+pub fn answers_are_one()
+    ensures points { OneNamedList }
+    ensures answers { AnswersAreOne }
+    ensures texts { TextsAreOne }
 {}
 
 /// On the cusp the statement `at x, y;` names the origin, and `at x-1;` does not.
