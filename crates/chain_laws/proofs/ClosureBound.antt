@@ -52,7 +52,8 @@ module _ (A : CurveData) (c : IsFinite A) where
         (up_to s.0 s.1 f hf (bound_law A c P (All-head (IsPoint A) P S p) s.0 s.2 f hf z.0))
         (total_over S (All-tail (IsPoint A) P S p) (All-tail (HasDeltaUpTo A r) P S d) fs ht z.1)
 
-    suffices : (S : List (List (List Term))) → ArePoints A S → All (HasDeltaUpTo A r) S → Suffices A S r
+    -- powers up to their greatest delta suffice for what is local at points
+    pub suffices : (S : List (List (List Term))) → ArePoints A S → All (HasDeltaUpTo A r) S → Suffices A S r
     suffices S p d f h l =
         let s = (parts_law A c S p f h).0 l in
         let t = total_poly A c s.parts s.fractions in

@@ -6,5 +6,5 @@ pub mod OneExponent
 pub mod StepLaws
 -- of independent local fractions any smaller number are independent
 pub mod FewerLaws
--- for this crate alone
-mod ClosureBound
+-- the deltas of points bound the powers of the fractions that are local there
+pub mod ClosureBound

@@ -31,11 +31,11 @@ delta_within A c P r L h le above =
     h.no_more (fewer_law A c P (suc r) (L - r) (subst (HasIndependent A P) n above))
 
 -- a work with a module
-abbrev HasModule : DoneData → Type 0
+abbrev pub HasModule : DoneData → Type 0
 HasModule d = (o : OverData) × (d.verdict ≡ Finished o)
 
 -- the points with finished modules are those of such works
-member_of : (ds : List DoneData) (P : List (List Term)) → Contains (map basis_of (finished_points ds)) P → (d : DoneData) × Contains ds d × HasModule d × (basis_of d.point ≡ P)
+pub member_of : (ds : List DoneData) (P : List (List Term)) → Contains (map basis_of (finished_points ds)) P → (d : DoneData) × Contains ds d × HasModule d × (basis_of d.point ≡ P)
 member_of [] P c = absurd (let l : c.0 < 0 = c.1 in omega arith)
 member_of (d ∷ ds) P c = go (member_of ds P) d.verdict refl c
   where
@@ -48,7 +48,7 @@ member_of (d ∷ ds) P c = go (member_of ds P) d.verdict refl c
         which (inr t) = let m = later t in (m.0, contains_tail d m.0 ds m.1, m.2, m.3)
     go later TooLarge q w = let m = later w in (m.0, contains_tail d m.0 ds m.1, m.2, m.3)
 
-member_into : (ds : List DoneData) (d : DoneData) → Contains ds d → HasModule d → Contains (map basis_of (finished_points ds)) (basis_of d.point)
+pub member_into : (ds : List DoneData) (d : DoneData) → Contains ds d → HasModule d → Contains (map basis_of (finished_points ds)) (basis_of d.point)
 member_into [] d c m = absurd (let l : c.0 < 0 = c.1 in omega arith)
 member_into (e ∷ ds) d c m = which (λ t. member_into ds d t m) (contains_cases e d ds c)
   where
@@ -64,7 +64,7 @@ member_into (e ∷ ds) d c m = which (λ t. member_into ds d t m) (contains_case
     which later (inl q) = here e.verdict (ap (λ x. x.verdict) q ∙ m.1) (ap (λ x. basis_of x.point) q)
     which later (inr t) = past e.verdict (later t)
 
-contains_reversed : {X : Type 0} (x : X) (xs : List X) → Contains xs x → Contains (reverse xs) x
+pub contains_reversed : {X : Type 0} (x : X) (xs : List X) → Contains xs x → Contains (reverse xs) x
 contains_reversed x [] c = c
 contains_reversed x (y ∷ xs) c = subst (λ l. Contains l x) (sym (reversed y xs)) (which (contains_reversed x xs) (contains_cases y x xs c))
   where
@@ -72,7 +72,7 @@ contains_reversed x (y ∷ xs) c = subst (λ l. Contains l x) (sym (reversed y x
     which later (inl e) = Contains-append_right (reverse xs) (y ∷ []) x (subst (Contains (y ∷ [])) e (contains_head y []))
     which later (inr t) = Contains-append_left (reverse xs) (y ∷ []) x (later t)
 
-contains_turned : {X : Type 0} (x : X) (xs : List X) → Contains (reverse xs) x → Contains xs x
+pub contains_turned : {X : Type 0} (x : X) (xs : List X) → Contains (reverse xs) x → Contains xs x
 contains_turned x xs c = subst (λ l. Contains l x) (reverse-reverse xs) (contains_reversed x (reverse xs) c)
 
 -- the points of the settled entries, each once
