@@ -1,0 +1,3 @@
+-- for this crate alone
+mod Points
+mod Entries
