@@ -4,8 +4,9 @@ use Rattle.std.specs.Prelude.{Option, None, Some, Result, ◌==◌}
 use Rattle.std.proofs.lemmas.Bool.Decides.{nat_tests}
 use Rattle.std.specs.Io.KnownBytes.{Appends}
 use Rattle.norm_core.specs.declared.refusals.Refusal.{Refusal}
+use Rattle.norm_core.specs.declared.words.Ask.{Ask}
 use Rattle.norm_core.specs.Words.{AskUnder}
-use Rattle.norm_core.specs.Telling.{Tells, Told, HasAnswer, ToTell, IsTold, IsCutShort, IsExact, IsStopped, HasStatus, outcome_status}
+use Rattle.norm_core.specs.Telling.{Tells, Told, HasAnswer, ToTell, IsTold, IsCutShort, IsExact, IsComplete, IsStopped, HasStatus, outcome_status}
 
 eq_or_ne : (a b : ℕ) → (a ≡ b) ⊎ (a ≢ b)
 eq_or_ne a b = by_test (a == b) refl
@@ -15,10 +16,10 @@ eq_or_ne a b = by_test (a == b) refl
     by_test false e = inr (λ same. grind (arith, nat_tests))
 
 -- a run that ends with the status of its answer, unless a write fails, is exact
-pub run-exact : (cap : ℕ) (left : Option (List ℕ)) (answer : Result (List ℕ) Refusal) (result : ℕ)
-    → ((input text : List ℕ) (status : ℕ) → left ≡ Some input → Tells cap input status text → HasStatus answer status)
-    → (result ≢ 21 → result ≡ outcome_status answer) → IsExact cap left result
-run-exact cap left answer result exact same input text status known tells = by_result (eq_or_ne result 21)
+pub run-exact : (cap limit : ℕ) (left : Option (List ℕ)) (answer : Result (List ℕ) Refusal) (result : ℕ)
+    → ((input text : List ℕ) (status : ℕ) → left ≡ Some input → Tells cap limit input status text → HasStatus answer status)
+    → (result ≢ 21 → result ≡ outcome_status answer) → IsExact cap limit left result
+run-exact cap limit left answer result exact same input text status known tells = by_result (eq_or_ne result 21)
   where
     by_status : result ≡ outcome_status answer → HasStatus answer status → (result ≡ status) ⊎ IsStopped result
     by_status e (inl h) = inl (e ∙ h)
@@ -29,10 +30,10 @@ run-exact cap left answer result exact same input text status known tells = by_r
     by_result (inr kept) = by_status (same kept) (exact input text status known tells)
 
 -- and it answers what has an answer
-pub run-complete : (cap : ℕ) (left : Option (List ℕ)) (answer : Result (List ℕ) Refusal) (result : ℕ)
-    → ((input : List ℕ) → left ≡ Some input → HasAnswer cap input → HasStatus answer 0)
-    → (result ≢ 21 → result ≡ outcome_status answer) → (input : List ℕ) → left ≡ Some input → HasAnswer cap input → (result ≡ 0) ⊎ IsStopped result
-run-complete cap left answer result complete same input known h = by_result (eq_or_ne result 21)
+pub run-complete : (cap limit : ℕ) (left : Option (List ℕ)) (answer : Result (List ℕ) Refusal) (result : ℕ)
+    → ((input : List ℕ) → left ≡ Some input → HasAnswer cap limit input → HasStatus answer 0)
+    → (result ≢ 21 → result ≡ outcome_status answer) → IsComplete cap limit left result
+run-complete cap limit left answer result complete same input known h = by_result (eq_or_ne result 21)
   where
     by_status : result ≡ outcome_status answer → HasStatus answer 0 → (result ≡ 0) ⊎ IsStopped result
     by_status e (inl zero) = inl (e ∙ zero)
@@ -64,8 +65,8 @@ run-cut_short words left now held held_now status text meant part = record {
   gained = part.2;
 }
 
-pub told-text : (cap : ℕ) (left now : Option (List ℕ)) (status : ℕ) (a b : List ℕ) → a ≡ b → Told cap left now status b → Told cap left now status a
-told-text cap left now status a b e told = subst (Told cap left now status) (sym e) told
+pub told-text : (cap limit : ℕ) (left now : Option (List ℕ)) (status : ℕ) (a b : List ℕ) → a ≡ b → Told cap limit left now status b → Told cap limit left now status a
+told-text cap limit left now status a b e told = subst (Told cap limit left now status) (sym e) told
 
 -- ---- refusals
 
@@ -79,48 +80,52 @@ refuse-status status result K W silent whole kept = by_status (eq_or_ne status 2
     by_status (inr a) (inl memory) = (silent (inr memory)).0
     by_status (inr a) (inr b) = (whole (a, b) kept).0
 
-pub refuse-told : (words : List (List ℕ)) (left now held held_now : Option (List ℕ)) (cap status result : ℕ) (line : List ℕ) (K R : Type 0)
-    → AskUnder words cap → ((status ≡ 20) ⊎ (status ≡ 30) → (result ≡ status) × K)
+pub refuse-told : (words : List (List ℕ)) (left now held held_now : Option (List ℕ)) (cap limit status result : ℕ) (line : List ℕ) (K R : Type 0)
+    → AskUnder words cap limit → ((status ≡ 20) ⊎ (status ≡ 30) → (result ≡ status) × K)
     → ((status ≢ 20) × (status ≢ 30) → result ≢ 21 → (result ≡ status) × Appends held held_now line)
-    → (status ≡ 30) ⊎ ((status ≡ 20) × R) ⊎ Told cap left now status line
+    → (status ≡ 30) ⊎ ((status ≡ 20) × R) ⊎ Told cap limit left now status line
     → IsStopped result ⊎ IsTold words left now held held_now result
-refuse-told words left now held held_now cap status result line K R asked silent whole refused = by_status (eq_or_ne status 20) (eq_or_ne status 30)
+refuse-told words left now held held_now cap limit status result line K R asked silent whole refused = by_status (eq_or_ne status 20) (eq_or_ne status 30)
   where
-    by_telling : (status ≢ 20) → (status ≢ 30) → (status ≡ 30) ⊎ ((status ≡ 20) × R) ⊎ Told cap left now status line
+    by_telling : (status ≢ 20) → (status ≢ 30) → (status ≡ 30) ⊎ ((status ≡ 20) × R) ⊎ Told cap limit left now status line
         → IsStopped result ⊎ IsTold words left now held held_now result
     by_telling a b (inl memory) = absurd (b memory)
     by_telling a b (inr (inl fault)) = absurd (a fault.0)
-    by_telling a b (inr (inr told)) = run-told words left now held held_now status result line (whole (a, b)) (inr (cap, asked, told))
+    by_telling a b (inr (inr told)) = run-told words left now held held_now status result line (whole (a, b)) (inr (cap, limit, asked, told))
 
     by_status : (status ≡ 20) ⊎ (status ≢ 20) → (status ≡ 30) ⊎ (status ≢ 30) → IsStopped result ⊎ IsTold words left now held held_now result
     by_status (inl fault) b = inl (inl ((silent (inl fault)).0 ∙ fault))
     by_status (inr a) (inl memory) = inl (inr (inr ((silent (inr memory)).0 ∙ memory)))
     by_status (inr a) (inr b) = by_telling a b refused
 
-pub refuse-cut_short : (words : List (List ℕ)) (left now held held_now : Option (List ℕ)) (cap status : ℕ) (line : List ℕ) (R : Type 0)
-    → AskUnder words cap → (status ≡ 30) ⊎ ((status ≡ 20) × R) ⊎ Told cap left now status line
+pub refuse-cut_short : (words : List (List ℕ)) (left now held held_now : Option (List ℕ)) (cap limit status : ℕ) (line : List ℕ) (R : Type 0)
+    → AskUnder words cap limit → (status ≡ 30) ⊎ ((status ≡ 20) × R) ⊎ Told cap limit left now status line
     → (status ≢ 20) × (status ≢ 30) × ((n : ℕ) × (n < length line) × Appends held held_now (take n line))
     → IsCutShort words left now held held_now
-refuse-cut_short words left now held held_now cap status line R asked (inl memory) part = absurd (part.1 memory)
-refuse-cut_short words left now held held_now cap status line R asked (inr (inl fault)) part = absurd (part.0 fault.0)
-refuse-cut_short words left now held held_now cap status line R asked (inr (inr told)) part =
-    run-cut_short words left now held held_now status line (inr (cap, asked, told)) part.2
+refuse-cut_short words left now held held_now cap limit status line R asked (inl memory) part = absurd (part.1 memory)
+refuse-cut_short words left now held held_now cap limit status line R asked (inr (inl fault)) part = absurd (part.0 fault.0)
+refuse-cut_short words left now held held_now cap limit status line R asked (inr (inr told)) part =
+    run-cut_short words left now held held_now status line (inr (cap, limit, asked, told)) part.2
 
--- ---- the cap
+-- ---- what was asked
 
 pub none_or_some : {T : Type 0} {x : T} → None ≡ Some x → ⊥
 none_or_some e = cc
 
--- the words ask for one cap
-pub same_cap : {a b : ℕ} → Some a ≡ Some b → a ≡ b
-same_cap e = cc
+-- what was asked is one
+pub cap-of : {a b : Ask} → Some a ≡ Some b → a.cap ≡ b.cap
+cap-of e = cc
 
--- with it a run is exact and complete
-pub exact-for : (asked cap : ℕ) (left : Option (List ℕ)) (result : ℕ) → Some asked ≡ Some cap → IsExact asked left result → IsExact cap left result
-exact-for asked cap left result e exact = subst (λ k. IsExact k left result) (same_cap e) exact
+pub limit-of : {a b : Ask} → Some a ≡ Some b → a.limit ≡ b.limit
+limit-of e = cc
 
-pub complete-for : (asked cap : ℕ) (left : Option (List ℕ)) (result : ℕ) → Some asked ≡ Some cap
-    → ((input : List ℕ) → left ≡ Some input → HasAnswer asked input → (result ≡ 0) ⊎ IsStopped result)
-    → (input : List ℕ) → left ≡ Some input → HasAnswer cap input → (result ≡ 0) ⊎ IsStopped result
-complete-for asked cap left result e complete =
-    subst (λ k. (input : List ℕ) → left ≡ Some input → HasAnswer k input → (result ≡ 0) ⊎ IsStopped result) (same_cap e) complete
+-- for it a run is exact and complete
+pub exact-for : (asked other : Ask) (left : Option (List ℕ)) (result : ℕ) → Some asked ≡ Some other
+    → IsExact asked.cap asked.limit left result → IsExact other.cap other.limit left result
+exact-for asked other left result e exact =
+    subst (λ k. IsExact k other.limit left result) (cap-of e) (subst (λ l. IsExact asked.cap l left result) (limit-of e) exact)
+
+pub complete-for : (asked other : Ask) (left : Option (List ℕ)) (result : ℕ) → Some asked ≡ Some other
+    → IsComplete asked.cap asked.limit left result → IsComplete other.cap other.limit left result
+complete-for asked other left result e complete =
+    subst (λ k. IsComplete k other.limit left result) (cap-of e) (subst (λ l. IsComplete asked.cap l left result) (limit-of e) complete)

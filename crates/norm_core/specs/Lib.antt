@@ -1,3 +1,4 @@
 pub mod Words
 pub mod Refusals
+pub mod Solved
 pub mod Telling

@@ -15,9 +15,6 @@ usage_line = codes "refused: usage\n"
 abbrev pub bytes_line : List ℕ
 bytes_line = codes "refused: limit bytes\n"
 
-abbrev pub not_yet_line : List ℕ
-not_yet_line = codes "refused: not yet\n"
-
 -- the line of a counted quantity that passes its limit
 abbrev pub limit_line : Which → List ℕ
 limit_line which.Variables = codes "refused: limit variables\n"
@@ -61,13 +58,13 @@ stop_status stop.Wide = 9
 stop_status stop.NoDenominator = 7
 stop_status stop.Memory = 30
 
--- a failed read and want of memory have no line
+-- a failed read and want of memory have no line; that of a delta above the limit is kept whole
 abbrev pub line_of : Refusal → List ℕ
 line_of refusal.ReadFault = []
 line_of refusal.LimitBytes = bytes_line
 line_of (refusal.Text f) = fault_line f
 line_of (refusal.Denominator s) = stop_line s
-line_of refusal.NotYet = not_yet_line
+line_of (refusal.Delta line) = line
 line_of refusal.Memory = []
 
 abbrev pub status_of : Refusal → ℕ
@@ -75,5 +72,5 @@ status_of refusal.ReadFault = 20
 status_of refusal.LimitBytes = 4
 status_of (refusal.Text f) = fault_status f
 status_of (refusal.Denominator s) = stop_status s
-status_of refusal.NotYet = 40
+status_of (refusal.Delta line) = 10
 status_of refusal.Memory = 30

@@ -3,11 +3,11 @@ ghost use Rattle.std.specs.Prelude.{◌≡◌};
 ghost use Rattle.norm_core.specs.Refusals.{fault_line, fault_status, limit_line, stop_line, stop_status, line_of, status_of};
 
 use jacobian_pick::PickStop;
-use lists::NoMemory;
+use lists::{List, NoMemory};
 use singular_text::{ReadFault, Which};
 
 /// Why there is no answer.
-#[derive(Clone, Copy, Debug, Drop)]
+#[derive(Debug, Drop)]
 pub enum Refusal {
     /// A read failed.
     ReadFault,
@@ -17,8 +17,8 @@ pub enum Refusal {
     Text(ReadFault),
     /// The problem has no denominator.
     Denominator(PickStop),
-    /// The problem is not served yet.
-    NotYet,
+    /// Delta of a named point is above the limit; the line that names the point.
+    Delta(List<u8>),
     /// No memory was to be had.
     Memory,
 }
@@ -87,28 +87,28 @@ fn stop_status(stop: PickStop) -> u8
 
 impl Refusal {
     /// The line that tells the refusal; a failed read and want of memory have none.
-    pub fn line(self) -> &'static [u8]
-        ensures { result.now ≡ line_of self }
+    pub fn line(&self) -> &[u8]
+        ensures { result.now ≡ line_of self.now }
     {
         match self {
             Refusal::ReadFault | Refusal::Memory => b"",
             Refusal::LimitBytes => b"refused: limit bytes\n",
-            Refusal::Text(fault) => fault_line(fault),
-            Refusal::Denominator(stop) => stop_line(stop),
-            Refusal::NotYet => b"refused: not yet\n",
+            Refusal::Text(fault) => fault_line(*fault),
+            Refusal::Denominator(stop) => stop_line(*stop),
+            Refusal::Delta(line) => line.as_slice(),
         }
     }
 
     /// The status of a run that ends with the refusal.
-    pub fn status(self) -> u8
-        ensures { result ≡ status_of self }
+    pub fn status(&self) -> u8
+        ensures { result ≡ status_of self.now }
     {
         match self {
             Refusal::ReadFault => 20,
             Refusal::LimitBytes => 4,
-            Refusal::Text(fault) => fault_status(fault),
-            Refusal::Denominator(stop) => stop_status(stop),
-            Refusal::NotYet => 40,
+            Refusal::Text(fault) => fault_status(*fault),
+            Refusal::Denominator(stop) => stop_status(*stop),
+            Refusal::Delta(_) => 10,
             Refusal::Memory => 30,
         }
     }

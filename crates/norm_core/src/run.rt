@@ -1,30 +1,34 @@
 // The top call.
-ghost use Rattle.std.specs.Prelude.{◌≡◌, ◌≢◌, ℕ, List, ◌<◌, ◌⊎◌, map, string_bytes, length, take, Some};
+ghost use Rattle.std.specs.Prelude.{◌≡◌, ◌≢◌, ℕ, List, ◌<◌, ◌⊎◌, map, string_bytes, length, take};
 ghost use Rattle.std.specs.Io.KnownBytes.{Keeps, Appends};
 ghost use Rattle.norm_outside.specs.Causes.{Rose};
 ghost use Rattle.norm_core.specs.Refusals.{line_of, status_of};
-ghost use Rattle.norm_core.specs.Telling.{IsTold, IsCutShort, IsStopped, IsExact, HasAnswer};
+ghost use Rattle.norm_core.specs.Telling.{IsTold, IsCutShort, IsStopped, IsExact, IsComplete};
 ghost use Rattle.norm_core.specs.Words.{AskUnder, AskNothing};
 
 use crate::answering::answer;
 use crate::refusals::Refusal;
-use crate::words::asked_cap;
+use crate::words::asked;
 use norm_outside::{Sink, Source, write_all_of};
 use std::alloc::Global;
 
 /// Serves the words after the program's name, over a source and a sink, and gives the status.
 ///
-/// The words are `alone`, and after it, if wanted, a degree cap from 1 to 1,000: `--degree D` or `--degree=D`, where
-/// D has 1 to 4 digits; without it the cap is 200. It reads a problem, chooses the denominator, and writes the integral
-/// closure: 0 with the answer's text.
+/// The words are `alone`, and after it, in any order and each at most once, `--degree` with a cap on degrees from 1 to 1,000
+/// and `--delta` with a limit of delta from 1 to 64. An option's value has 1 to 4 digits and is the next word, or stands
+/// behind `=` in the same one; without the options the cap is 200 and the limit 64. It reads a problem, chooses the
+/// denominator, and writes the closure at the named points, which are all points where none are named: 0 with the answer's
+/// text.
 ///
 /// Each refusal writes its line, in this order: 2 `refused: usage`; 4 `refused: limit bytes` (more than 1,048,576
 /// bytes); 3 `refused: syntax`; 4 `refused: characteristic`, and `refused: limit` with `variables`, `generators`,
 /// `points`, `nesting`, `digits` or `size`; 6 `refused: deep ideal`; 5 `refused: unit ideal`; for a denominator that is
 /// handed in 6 `refused: deep denominator`, 8 `refused: zero divisor`, 9 `refused: infinite` or `refused: wide`; else
-/// 7 `refused: no denominator`; and, so far, 40 `refused: not yet` where points are named or something is left modulo
-/// the denominator. Without a line come 20 (a read failed), 21 (a write failed, after a part of the text) and 30 (want
-/// of memory).
+/// 7 `refused: no denominator`; and 10 `refused: delta` with the first named point whose delta is above the limit. Without
+/// a line come 20 (a read failed), 21 (a write failed, after a part of the text) and 30 (want of memory).
+///
+/// Böhm, Decker, Laplagne, Pfister, Steenpass and Steidel, Parallel Algorithms for Normalization; Greuel and Pfister, section on
+/// normalization.
 pub fn run_alone<S: Source, K: Sink>(
     alloc: Global,
     words: &[String],
@@ -36,22 +40,22 @@ pub fn run_alone<S: Source, K: Sink>(
 
     // And the other way round: what the words and the input have is the status, unless it is 20, 21 or 30.
     ensures usage { AskNothing (map string_bytes words.now) → (result ≡ 2) ⊎ (result ≡ 21) }
-    ensures exact { (cap : ℕ) → AskUnder (map string_bytes words.now) cap → IsExact cap (S.left source.old) result }
+    ensures exact { (cap limit : ℕ) → AskUnder (map string_bytes words.now) cap limit → IsExact cap limit (S.left source.old) result }
 
     // An input that has an answer is answered.
-    ensures complete { (cap : ℕ) → AskUnder (map string_bytes words.now) cap → (input : List ℕ) → S.left source.old ≡ Some input → HasAnswer cap input → (result ≡ 0) ⊎ IsStopped result }
+    ensures complete { (cap limit : ℕ) → AskUnder (map string_bytes words.now) cap limit → IsComplete cap limit (S.left source.old) result }
 
     ensures read_fault { result ≡ 20 → Rose (S.faults source.old) (S.faults source.new) × Keeps (K.held sink.old) (K.held sink.new) }
     ensures write_fault { result ≡ 21 → Rose (K.faults sink.old) (K.faults sink.new) }
     ensures cut_short { result ≡ 21 → IsCutShort (map string_bytes words.now) (S.left source.old) (S.left source.new) (K.held sink.old) (K.held sink.new) }
     ensures memory { result ≡ 30 → Keeps (K.held sink.old) (K.held sink.new) }
 {
-    let Some(cap) = asked_cap(words) else {
+    let Some(ask) = asked(words) else {
         return tell(sink, b"refused: usage\n", 2);
     };
-    match answer(alloc, cap, source) {
+    match answer(alloc, ask.cap, ask.limit, source) {
         Ok(text) => tell(sink, text.as_slice(), 0),
-        Err(refusal) => refuse(sink, refusal),
+        Err(refusal) => refuse(sink, &refusal),
     }
 }
 
@@ -69,10 +73,10 @@ fn tell<K: Sink>(sink: &mut K, text: &[u8], status: u8) -> u8
 }
 
 // Writes the line of the refusal, if it has one, and gives its status, or 21 where a write failed.
-fn refuse<K: Sink>(sink: &mut K, refusal: Refusal) -> u8
-    ensures silent { (status_of refusal ≡ 20) ⊎ (status_of refusal ≡ 30) → (result ≡ status_of refusal) × Keeps (K.held sink.old) (K.held sink.new) }
-    ensures whole { (status_of refusal ≢ 20) × (status_of refusal ≢ 30) → result ≢ 21 → (result ≡ status_of refusal) × Appends (K.held sink.old) (K.held sink.new) (line_of refusal) }
-    ensures part { result ≡ 21 → (status_of refusal ≢ 20) × (status_of refusal ≢ 30) × ((n : ℕ) × (n < length (line_of refusal)) × Appends (K.held sink.old) (K.held sink.new) (take n (line_of refusal))) }
+fn refuse<K: Sink>(sink: &mut K, refusal: &Refusal) -> u8
+    ensures silent { (status_of refusal.now ≡ 20) ⊎ (status_of refusal.now ≡ 30) → (result ≡ status_of refusal.now) × Keeps (K.held sink.old) (K.held sink.new) }
+    ensures whole { (status_of refusal.now ≢ 20) × (status_of refusal.now ≢ 30) → result ≢ 21 → (result ≡ status_of refusal.now) × Appends (K.held sink.old) (K.held sink.new) (line_of refusal.now) }
+    ensures part { result ≡ 21 → (status_of refusal.now ≢ 20) × (status_of refusal.now ≢ 30) × ((n : ℕ) × (n < length (line_of refusal.now)) × Appends (K.held sink.old) (K.held sink.new) (take n (line_of refusal.now))) }
     ensures fault { result ≡ 21 → Rose (K.faults sink.old) (K.faults sink.new) }
 {
     let status = refusal.status();

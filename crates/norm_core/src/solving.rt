@@ -1,94 +1,136 @@
-// From a problem to its answer.
-ghost use Rattle.std.specs.Prelude.{◌≡◌, ◌≢◌, ◌↔◌, ◌≤◌, ◌⊎◌, ℕ, [], ◌∷◌, All, IfOk, IfErr, IsTrue, false};
-ghost use Rattle.lift_colon.specs.Lifted.{HasDimension};
+// From a problem to the text of its answer.
+ghost use Rattle.std.specs.Prelude.{◌≡◌, ◌⊎◌, ◌≤◌, ℕ, List, length, map, IfOk, IfErr};
 ghost use Rattle.module_basis.specs.declared.cap.TheConstants.{MAX_CAP};
+ghost use Rattle.polys.specs.Curve.{Fit, data_of};
+ghost use Rattle.curve_model.specs.Point.{basis_of};
 ghost use Rattle.problem.specs.Problem.{IsFitProblem, problem_data};
-ghost use Rattle.norm_text.specs.Answer.{answer_text};
-ghost use Rattle.norm_text.specs.Plain.{plain_answer};
-ghost use Rattle.norm_text.specs.Shown as shown;
+ghost use Rattle.jacobian_pick.specs.Choice.{IsLiftedOf as IsBasesOf, curve_of_lifted};
+ghost use Rattle.digit_plan.specs.Lifts.{IsLiftedOf};
+ghost use Rattle.join_book.specs.Whole.{IsWhole};
+ghost use Rattle.norm_text.specs.Named.{IsNamedList};
+ghost use Rattle.curve_answer.specs.Telling.{Tells};
 ghost use Rattle.norm_core.specs.Refusals.{line_of, status_of};
-ghost use Rattle.norm_core.specs.Telling.{HasDenominator, IsServed, Solves, HasStatus};
-ghost use Rattle.polys.specs.declared.term.Term.{Term};
+ghost use Rattle.norm_core.specs.Solved.{HaveOneDimension, IsRefusedByDelta, IsSolved, own_delta_line};
+ghost use Rattle.norm_core.specs.Telling.{IsSolvable, Solves, HasStatus};
 
 use crate::refusals::Refusal;
+use curve_answer::{Told, answer_of};
+use curve_model::Point;
+use digit_make::make;
+use digit_space::Digits;
 use jacobian_pick::pick;
-use lift_colon::{Dimension, Lifted};
+use join_book::Book;
+use lift_colon::Lifted;
 use lists::{List, NoMemory};
-use norm_text::{Answer, print_answer};
-use polys::Poly;
+use named_points::named_points;
+use norm_text::{print_answer, print_list};
+use poly_text::print_bytes;
+use polys::{Curve, copied};
 use singular_text::{Letters, Problem};
 use std::alloc::Global;
+use std::sync::Arc;
+use strata_work::{Hand, copies_of_points, worked};
 
-// Whether nothing is left modulo the ideal and the denominator.
-fn is_nothing_left(lifted: &Lifted) -> bool
-    ensures { IsTrue result ↔ HasDimension lifted.now 0 }
+// The curve whose bases these are.
+fn curve_of(alloc: Global, lifted: &Lifted) -> Result<Arc<Curve>, NoMemory>
+    ensures { IfOk result (λ curve. curve.value ≡ curve_of_lifted lifted.now) }
 {
-    match lifted.small_dimension() {
-        Dimension::Finite(dimension) => dimension == 0,
-        Dimension::Wide | Dimension::Infinite => false,
+    let curve = Curve {
+        prime: lifted.prime(),
+        variables: lifted.variables(),
+        ideal: copied(alloc, lifted.ideal_basis())?,
+        denominator: lifted.denominator().clone_poly()?,
+    };
+    Ok(Arc::new(alloc, curve)?)
+}
+
+// The book of all work on the named points, in their order.
+fn book_of(
+    alloc: Global,
+    problem: &Problem,
+    digits: &Digits,
+    lifted: Arc<Lifted>,
+    limit: u32,
+) -> Result<Book, NoMemory>
+    requires problem { IsFitProblem problem.now }
+    requires depth { digits.now.depth ≡ 1 }
+    requires lifted { IsLiftedOf digits.now.curve lifted.value }
+    requires prime { digits.now.curve.prime ≡ problem.now.prime }
+    requires variables { digits.now.curve.variables ≡ length problem.now.letters }
+    requires limit { (1 ≤ limit) × (limit ≤ 64) }
+    ensures whole { IfOk result (λ book. IsWhole digits.now.curve book.points limit book) }
+    ensures named { IfOk result (λ book. IsNamedList (problem_data problem.now) (data_of digits.now.curve) (map basis_of book.points)) }
+{
+    let _basis = digits.basis();
+    let points = named_points(problem, digits)?;
+    let own = copies_of_points(alloc, points.as_slice())?;
+    let curve = Arc::try_clone(digits.curve())?;
+    let mut hand = Hand::new(alloc, Arc::try_clone(&curve)?, lifted, own, limit)?;
+    worked(alloc, curve, digits.dimension(), points, limit, &mut hand)
+}
+
+// The line of the refusal by the delta of the point.
+fn delta_line(alloc: Global, letters: &Letters, point: &Point) -> Result<List<u8>, NoMemory>
+    ensures { IfOk result (λ line. line ≡ own_delta_line letters.now point.now) }
+{
+    let mut line = List::new(alloc);
+    print_bytes(b"refused: delta ", &mut line)?;
+    print_list(letters, point.basis.as_slice(), &mut line)?;
+    line.push(b'\n')?;
+    Ok(line)
+}
+
+// The answer to the problem, or the first named point whose delta is above the limit.
+fn told_of(alloc: Global, problem: &Problem, lifted: Lifted, limit: u32) -> Result<Told, NoMemory>
+    requires problem { IsFitProblem problem.now }
+    requires bases { IsBasesOf (problem_data problem.now) lifted }
+    requires fit { Fit (curve_of_lifted lifted) }
+    requires dimension { HaveOneDimension (problem_data problem.now) lifted }
+    requires limit { (1 ≤ limit) × (limit ≤ 64) }
+    ensures { IfOk result (Tells problem.now lifted.denominator.terms limit) }
+{
+    let curve = curve_of(alloc, &lifted)?;
+    let lifted = Arc::new(alloc, lifted)?;
+    let digits = make(alloc, &curve, &lifted, 1)?;
+    let book = book_of(alloc, problem, &digits, Arc::try_clone(&lifted)?, limit)?;
+    answer_of(alloc, problem, &lifted, digits.dimension(), &book)
+}
+
+// The text of the answer, or the refusal by delta.
+fn answer_with(
+    alloc: Global,
+    problem: &Problem,
+    lifted: Lifted,
+    limit: u32,
+) -> Result<List<u8>, Refusal>
+    requires problem { IsFitProblem problem.now }
+    requires bases { IsBasesOf (problem_data problem.now) lifted }
+    requires fit { Fit (curve_of_lifted lifted) }
+    requires dimension { HaveOneDimension (problem_data problem.now) lifted }
+    requires limit { (1 ≤ limit) × (limit ≤ 64) }
+    ensures answered { IfOk result (λ text. IsSolved (problem_data problem.now) lifted.denominator.terms limit text) }
+    ensures refused { IfErr result (λ refusal. (status_of refusal ≡ 30) ⊎ ((status_of refusal ≡ 10) × IsRefusedByDelta (problem_data problem.now) lifted.denominator.terms limit (line_of refusal))) }
+{
+    match told_of(alloc, problem, lifted, limit)? {
+        Told::Answer(answer) => Ok(print_answer(alloc, &answer)?),
+        Told::Above(point) => {
+            let line = delta_line(alloc, &problem.letters, &point)?;
+            Err(Refusal::Delta(line))
+        }
     }
 }
 
-// Whether no points are named, and nothing is left modulo the ideal and the denominator.
-fn is_served(problem: &Problem, lifted: &Lifted) -> bool
-    ensures yes { IsTrue result → (problem.now.at ≡ []) × HasDimension lifted.now 0 }
-    ensures no { result ≡ false → (problem.now.at ≢ []) ⊎ (HasDimension lifted.now 0 → ⊥) }
+/// The text of the answer to the problem under the degree cap and the limit of delta, or why there is none.
+pub fn solve(alloc: Global, problem: &Problem, cap: u32, limit: u32) -> Result<List<u8>, Refusal>
+    requires fit { IsFitProblem problem.now }
+    requires cap { (1 ≤ cap) × (cap ≤ MAX_CAP) }
+    requires limit { (1 ≤ limit) × (limit ≤ 64) }
+    ensures answered { IfOk result (λ text. Solves (problem_data problem.now) cap limit 0 text) }
+    ensures refused { IfErr result (λ refusal. (status_of refusal ≡ 30) ⊎ Solves (problem_data problem.now) cap limit (status_of refusal) (line_of refusal)) }
+    ensures exact { (status : ℕ) (text : List ℕ) → Solves (problem_data problem.now) cap limit status text → HasStatus result status }
+    ensures complete { IsSolvable (problem_data problem.now) cap limit → HasStatus result 0 }
 {
-    problem.at.as_slice().is_empty() && is_nothing_left(lifted)
-}
-
-// The answer to a problem whose denominator leaves nothing.
-fn plain(alloc: Global, problem: Problem, denominator: Poly) -> Result<Answer, NoMemory>
-    requires { denominator.prime ≡ problem.prime }
-    ensures data { IfOk result (λ a. shown.data_of a ≡ plain_answer (problem_data problem) denominator.terms) }
-    ensures denominator { IfOk result (λ a. a.denominator.prime ≡ a.prime) }
-    ensures numerators { IfOk result (λ a. All (λ f. f.prime ≡ a.prime) a.numerators) }
-    ensures points { IfOk result (λ a. a.points ≡ []) }
-{
-    let Problem {
-        prime,
-        letters,
-        generators: _,
-        denominator: _,
-        at: _,
-    } = problem;
-    let mut numerators = List::new(alloc);
-    numerators.push(Poly::one(alloc, prime)?)?;
-    Ok(Answer {
-        prime,
-        letters,
-        denominator,
-        dimension: 0,
-        named: None,
-        points: List::new(alloc),
-        power: 0,
-        numerators,
-    })
-}
-
-// The text of that answer.
-fn plain_text(alloc: Global, problem: Problem, denominator: &Poly) -> Result<List<u8>, NoMemory>
-    requires { denominator.now.prime ≡ problem.prime }
-    ensures { IfOk result (λ text. text ≡ answer_text (plain_answer (problem_data problem) denominator.now.terms)) }
-{
-    let answer = plain(alloc, problem, denominator.clone_poly()?)?;
-    print_answer(alloc, &answer)
-}
-
-/// The text of the answer to the problem under the degree cap, or why there is none.
-pub fn solve(alloc: Global, problem: Problem, cap: u32) -> Result<List<u8>, Refusal>
-    requires fit { IsFitProblem problem }
-    requires some_cap { 1 ≤ cap }
-    requires cap { cap ≤ MAX_CAP }
-    ensures answered { IfOk result (λ text. Solves (problem_data problem) cap 0 text) }
-    ensures refused { IfErr result (λ refusal. (status_of refusal ≡ 30) ⊎ Solves (problem_data problem) cap (status_of refusal) (line_of refusal)) }
-    ensures exact { (status : ℕ) (text : List ℕ) → Solves (problem_data problem) cap status text → HasStatus result status }
-    ensures complete { (d : List Term) → HasDenominator (problem_data problem) cap d → IsServed (problem_data problem) d → HasStatus result 0 }
-{
-    let lifted = pick(alloc, &problem, cap)?;
-    let _basis = lifted.ideal_basis();
-    if !is_served(&problem, &lifted) {
-        return Err(Refusal::NotYet);
-    }
-    Ok(plain_text(alloc, problem, lifted.denominator())?)
+    let _prime = problem.prime.get();
+    let lifted = pick(alloc, problem, cap)?;
+    answer_with(alloc, problem, lifted, limit)
 }

@@ -24,6 +24,23 @@ const LINE_ANSWER: &str =
 
 const CUSP: &str = "ring r = 7,(x,y),dp; ideal I = y2-x3;";
 
+const CUSP_ANSWER: &str =
+    "locnormal 1\ncharacteristic 7\nvariables x,y\ndenominator x^2\ndimension 4\npoint y, x; degree 1; delta 1\npower 1\nnumerator y^2\nnumerator x*y\nnumerator x^2\nend\n";
+
+// Two branches that meet in two points, at one of which the program is asked what is local.
+const PARTIAL: &str = "ring r = 7,(x,y),dp; ideal I = y2-x4+2x3-x2; at x, y;";
+
+const PARTIAL_ANSWER: &str =
+    "locnormal 2\ncharacteristic 7\nvariables x,y\ndenominator x^3+2*x^2-3*x\ndimension 6\nnamed 1\npoint y, x; degree 1; delta 1\npower 1\nnumerator x^2-3*y^2-x\nnumerator y^3+x*y-y\nnumerator x*y^2+3*y^2\nend\n";
+
+// A double line: delta of its point is above every limit.
+const DOUBLE: &str = "ring r = 7,(x,y),dp; ideal I = y2; poly d = x;";
+
+const TACNODE: &str = "ring r = 3,(x,y),dp; ideal I = y2-x4;";
+
+const TACNODE_ANSWER: &str =
+    "locnormal 1\ncharacteristic 3\nvariables x,y\ndenominator x^3\ndimension 6\npoint y, x; degree 1; delta 2\npower 1\nnumerator y^2\nnumerator x*y\nnumerator x^3\nend\n";
+
 // Nine distinct points: the second partial derivative of the first generator is -1, so the denominator is 1.
 const CUBES: &str = "ring r = 7,(x,y),dp; ideal I = x3-y, y3-x;";
 
@@ -70,23 +87,19 @@ fn gives(alloc: Global, words: &[&str], input: &str, status: u8, text: &str) -> 
 
 #[test]
 fn problems_are_answered(rt: HostRuntime) -> Result<(), Fail> {
+    let none = "ring r = 7,(x,y),dp; ideal I = y2; poly d = x; at x-1;";
+    let none_answer =
+        "locnormal 2\ncharacteristic 7\nvariables x,y\ndenominator x\ndimension 2\nnamed 0\npower 0\nnumerator 1\nend\n";
     for (input, text) in [
         (TRIVIAL, TRIVIAL_ANSWER),
         (POINT, POINT_ANSWER),
         (LINE, LINE_ANSWER),
+        (CUSP, CUSP_ANSWER),
+        (PARTIAL, PARTIAL_ANSWER),
+        (none, none_answer),
     ] {
         assert!(rt;
             gives(rt.alloc(), &["alone"], input, 0, text)?,
-            "at {input}"
-        );
-    }
-    let named = "ring r = 7,(x),dp; ideal I = x-1; poly d = x; at x-1;";
-    // Six partial derivatives are 0, and x+y is a sum of the two behind them.
-    let late = "ring r = 5,(x,y),dp; ideal I = 0,0,0,x*y;";
-    for input in [CUSP, named, late] {
-        let line = "refused: not yet\n";
-        assert!(rt;
-            gives(rt.alloc(), &["alone"], input, 40, line)?,
             "at {input}"
         );
     }
@@ -147,15 +160,16 @@ fn texts_are_refused(rt: HostRuntime) -> Result<(), Fail> {
 }
 
 #[test]
-fn words_ask_for_a_cap(rt: HostRuntime) -> Result<(), Fail> {
+fn words_ask_for_a_cap_and_a_limit(rt: HostRuntime) -> Result<(), Fail> {
     let deep = "refused: deep ideal\n";
     let cusp = "ring r = 7,(x,y),dp; ideal I = y2-x3; poly d = x2+y;";
     let deep_denominator = "refused: deep denominator\n";
+    let delta = "refused: delta y, x\n";
     for (words, input, status, text) in [
         (["alone", "--degree", "4"].as_slice(), CUBES, 6, deep),
         (["alone", "--degree=0004"].as_slice(), CUBES, 6, deep),
         (
-            ["alone", "--degree", "1000"].as_slice(),
+            ["alone", "--delta", "64", "--degree", "1000"].as_slice(),
             CUBES,
             0,
             TRIVIAL_ANSWER,
@@ -166,6 +180,14 @@ fn words_ask_for_a_cap(rt: HostRuntime) -> Result<(), Fail> {
             cusp,
             6,
             deep_denominator,
+        ),
+        (["alone"].as_slice(), DOUBLE, 10, delta),
+        (["alone", "--delta", "1"].as_slice(), TACNODE, 10, delta),
+        (
+            ["alone", "--degree=200", "--delta=2"].as_slice(),
+            TACNODE,
+            0,
+            TACNODE_ANSWER,
         ),
     ] {
         assert!(rt; gives(rt.alloc(), words, input, status, text)?);
@@ -187,6 +209,11 @@ fn other_words_are_refused(rt: HostRuntime) -> Result<(), Fail> {
         (["alone", "--degree=00200"].as_slice(), 2),
         (["alone", "--degree=+200"].as_slice(), 2),
         (["alone", "--degree", "4", "--degree", "4"].as_slice(), 2),
+        (["alone", "--delta=1", "--delta", "1"].as_slice(), 2),
+        (["alone", "--delta", "65"].as_slice(), 2),
+        (["alone", "--delta=0"].as_slice(), 2),
+        (["alone", "--workers", "2"].as_slice(), 2),
+        (["alone", "--degree", "4", "--"].as_slice(), 2),
     ] {
         assert!(rt; gives(rt.alloc(), words, CUBES, status, "refused: usage\n")?);
     }

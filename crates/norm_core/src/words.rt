@@ -1,34 +1,60 @@
 // The words after the program's name.
-ghost use Rattle.std.specs.Prelude.{◌≡◌, ℕ, List, ◌∷◌, ◌++◌, map, string_bytes, codes, length, IfSome, IsTrue, ◌↔◌, Some};
-ghost use Rattle.norm_core.specs.Words.{IsCap, AskUnder};
+ghost use Rattle.std.specs.Prelude.{◌≡◌, ◌≤◌, ℕ, List, [], ◌∷◌, ◌+◌, ◌++◌, map, string_bytes, codes, length, IfSome, MatchOption, IsTrue, ◌↔◌, Some};
+ghost use Rattle.module_basis.specs.declared.cap.TheConstants.{MAX_CAP};
+ghost use Rattle.norm_core.specs.Words.{IsNumberUpTo, IsSetting, IsJoined, Adds, Gives, AskUnder};
+ghost use Rattle.norm_core.specs.declared.words.Given.{Given};
+ghost use Rattle.norm_core.specs.declared.words.Setting.{Setting};
 
 use module_basis::MAX_CAP;
 use singular_text::{is_number, number_up_to};
 
-// The cap where no option is given.
-const DEFAULT_CAP: u32 = 200;
+/// The cap where no option is given.
+pub const DEFAULT_CAP: u32 = 200;
 
-// The cap that a word writes.
-fn cap_of(word: &[u8]) -> Option<u32>
-    ensures found { IfSome result (λ cap. IsCap word.now cap) }
-    ensures complete { (cap : ℕ) → IsCap word.now cap → result ≡ Some cap }
-{
-    if word.len() > 4 || !is_number(word) {
-        return None;
-    }
-    let cap = number_up_to(MAX_CAP + 1, word);
-    if cap == 0 || cap > MAX_CAP {
-        return None;
-    }
-    Some(cap)
+/// The greatest limit, which is the limit where no option is given.
+pub const MAX_LIMIT: u32 = 64;
+
+/// The most digits of a value.
+const MAX_DIGITS: usize = 4;
+
+/// The most words of options: each of two at most once, and in two words at most.
+const MAX_OPTION_WORDS: usize = 4;
+
+/// What one option sets.
+#[derive(Clone, Copy)]
+pub enum Setting {
+    Degree(u32),
+    Delta(u32),
 }
 
-// The cap behind `--degree=`.
-fn joined_cap(word: &[u8]) -> Option<u32>
-    ensures found { IfSome result (λ cap. (value : List ℕ) × (word.now ≡ codes "--degree=" ++ value) × IsCap value cap) }
-    ensures complete { (value : List ℕ) (cap : ℕ) → word.now ≡ codes "--degree=" ++ value → IsCap value cap → result ≡ Some cap }
+/// What the options set, each at most once.
+#[derive(Clone, Copy)]
+pub struct Given {
+    pub degree: Option<u32>,
+    pub delta: Option<u32>,
+}
+
+/// What is asked for: the cap of the degrees, and the limit of the deltas.
+#[derive(Clone, Copy)]
+pub struct Ask {
+    pub cap: u32,
+    pub limit: u32,
+}
+
+// The number from 1 to `most` that a word writes.
+fn number_in(most: u32, word: &[u8]) -> Option<u32>
+    requires { most ≤ MAX_CAP }
+    ensures found { IfSome result (λ n. IsNumberUpTo most word.now n) }
+    ensures complete { (n : ℕ) → IsNumberUpTo most word.now n → result ≡ Some n }
 {
-    cap_of(word.strip_prefix(b"--degree=".as_slice())?)
+    if word.len() > MAX_DIGITS || !is_number(word) {
+        return None;
+    }
+    let value = number_up_to(most + 1, word);
+    if value == 0 || value > most {
+        return None;
+    }
+    Some(value)
 }
 
 // Whether the word is this text.
@@ -38,29 +64,129 @@ fn is_text(word: &[u8], text: &[u8]) -> bool
     word == text
 }
 
-// The cap in a word behind `--degree`.
-fn apart_cap(name: &[u8], word: &[u8]) -> Option<u32>
-    ensures found { IfSome result (λ cap. (name.now ≡ codes "--degree") × IsCap word.now cap) }
-    ensures complete { (cap : ℕ) → name.now ≡ codes "--degree" → IsCap word.now cap → result ≡ Some cap }
+// What `--degree` and a value set.
+fn degree_of(name: &[u8], value: &[u8]) -> Option<u32>
+    ensures found { IfSome result (λ cap. (name.now ≡ codes "--degree") × IsNumberUpTo MAX_CAP value.now cap) }
+    ensures complete { (cap : ℕ) → name.now ≡ codes "--degree" → IsNumberUpTo MAX_CAP value.now cap → result ≡ Some cap }
 {
     if !is_text(name, b"--degree") {
         return None;
     }
-    cap_of(word)
+    number_in(MAX_CAP, value)
 }
 
-/// The degree cap that the words ask for, or `None` where they ask for nothing that is served.
-pub fn asked_cap(words: &[String]) -> Option<u32>
-    ensures found { IfSome result (λ cap. AskUnder (map string_bytes words.now) cap) }
-    ensures complete { (cap : ℕ) → AskUnder (map string_bytes words.now) cap → result ≡ Some cap }
+// What `--delta` and a value set.
+fn delta_of(name: &[u8], value: &[u8]) -> Option<u32>
+    ensures found { IfSome result (λ limit. (name.now ≡ codes "--delta") × IsNumberUpTo MAX_LIMIT value.now limit) }
+    ensures complete { (limit : ℕ) → name.now ≡ codes "--delta" → IsNumberUpTo MAX_LIMIT value.now limit → result ≡ Some limit }
 {
-    if words.is_empty() || !is_text(words[0].as_bytes(), b"alone") {
+    if !is_text(name, b"--delta") {
         return None;
     }
-    match words.len() {
-        1 => Some(DEFAULT_CAP),
-        2 => joined_cap(words[1].as_bytes()),
-        3 => apart_cap(words[1].as_bytes(), words[2].as_bytes()),
+    number_in(MAX_LIMIT, value)
+}
+
+// What an option's name and its value set.
+fn setting_of(name: &[u8], value: &[u8]) -> Option<Setting>
+    ensures found { IfSome result (λ setting. IsSetting name.now value.now setting) }
+    ensures complete { (setting : Setting) → IsSetting name.now value.now setting → result ≡ Some setting }
+{
+    if let Some(cap) = degree_of(name, value) {
+        return Some(Setting::Degree(cap));
+    }
+    Some(Setting::Delta(delta_of(name, value)?))
+}
+
+// The cap behind `--degree=`.
+fn joined_degree(word: &[u8]) -> Option<u32>
+    ensures found { IfSome result (λ n. (value : List ℕ) × (word.now ≡ codes "--degree=" ++ value) × IsNumberUpTo MAX_CAP value n) }
+    ensures complete { (value : List ℕ) (n : ℕ) → word.now ≡ codes "--degree=" ++ value → IsNumberUpTo MAX_CAP value n → result ≡ Some n }
+{
+    number_in(MAX_CAP, word.strip_prefix(b"--degree=".as_slice())?)
+}
+
+// The limit behind `--delta=`.
+fn joined_delta(word: &[u8]) -> Option<u32>
+    ensures found { IfSome result (λ n. (value : List ℕ) × (word.now ≡ codes "--delta=" ++ value) × IsNumberUpTo MAX_LIMIT value n) }
+    ensures complete { (value : List ℕ) (n : ℕ) → word.now ≡ codes "--delta=" ++ value → IsNumberUpTo MAX_LIMIT value n → result ≡ Some n }
+{
+    number_in(MAX_LIMIT, word.strip_prefix(b"--delta=".as_slice())?)
+}
+
+// What an option with its value in one word sets.
+fn joined_setting(word: &[u8]) -> Option<Setting>
+    ensures found { IfSome result (λ setting. IsJoined word.now setting) }
+    ensures complete { (setting : Setting) → IsJoined word.now setting → result ≡ Some setting }
+{
+    if let Some(cap) = joined_degree(word) {
+        return Some(Setting::Degree(cap));
+    }
+    Some(Setting::Delta(joined_delta(word)?))
+}
+
+// What is set with this option too, or `None` where it was given before.
+fn with_setting(given: Given, setting: Setting) -> Option<Given>
+    ensures found { IfSome result (λ after. Adds given setting after) }
+    ensures complete { (after : Given) → Adds given setting after → result ≡ Some after }
+{
+    match setting {
+        Setting::Degree(cap) if given.degree.is_none() => Some(Given {
+            degree: Some(cap),
+            ..given
+        }),
+        Setting::Delta(limit) if given.delta.is_none() => Some(Given {
+            delta: Some(limit),
+            ..given
+        }),
         _ => None,
     }
+}
+
+// The first word, and the words behind it.
+fn first_word(words: &[String]) -> Option<(&[u8], &[String])>
+    ensures words { MatchOption result (map string_bytes words.now ≡ []) (λ p. map string_bytes words.now ≡ p.0.now ∷ map string_bytes p.1.now) }
+    ensures shorter { IfSome result (λ p. length p.1.now + 1 ≡ length words.now) }
+{
+    let (first, behind) = words.split_first()?;
+    Some((first.as_bytes(), behind))
+}
+
+// What the words of options set, or `None` where one of them is no option.
+fn given_in(words: &[String]) -> Option<Given>
+    ensures found { IfSome result (λ given. Gives (map string_bytes words.now) given) }
+    ensures complete { (given : Given) → Gives (map string_bytes words.now) given → result ≡ Some given }
+{
+    let Some((word, behind)) = first_word(words) else {
+        return Some(Given {
+            degree: None,
+            delta: None,
+        });
+    };
+    if let Some(setting) = joined_setting(word) {
+        return with_setting(given_in(behind)?, setting);
+    }
+    let (value, rest) = first_word(behind)?;
+    let setting = setting_of(word, value)?;
+    with_setting(given_in(rest)?, setting)
+}
+
+/// The cap and the limit that the words ask for, or `None` where they ask for nothing that is served.
+pub fn asked(words: &[String]) -> Option<Ask>
+    ensures found { IfSome result (λ a. AskUnder (map string_bytes words.now) a.cap a.limit) }
+    ensures complete { (cap limit : ℕ) → AskUnder (map string_bytes words.now) cap limit → result ≡ Some (record { cap = cap; limit = limit }) }
+    ensures cap { IfSome result (λ a. (1 ≤ a.cap) × (a.cap ≤ MAX_CAP)) }
+    ensures limit { IfSome result (λ a. (1 ≤ a.limit) × (a.limit ≤ 64)) }
+{
+    let (command, options) = first_word(words)?;
+    if !is_text(command, b"alone") {
+        return None;
+    }
+    if options.len() > MAX_OPTION_WORDS {
+        return None;
+    }
+    let given = given_in(options)?;
+    Some(Ask {
+        cap: given.degree.unwrap_or(DEFAULT_CAP),
+        limit: given.delta.unwrap_or(MAX_LIMIT),
+    })
 }
