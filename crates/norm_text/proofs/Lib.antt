@@ -10,3 +10,10 @@ pub mod OneList
 mod OneAnswer
 mod Joins
 mod NamedExamples
+mod Cuts
+mod TextCuts
+mod Told
+mod Leaves
+mod NextItems
+mod Sizes
+mod Whole

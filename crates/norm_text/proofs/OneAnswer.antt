@@ -2,19 +2,19 @@
 use Rattle.std.proofs.Common.{◌≡◌, ◌<◌, ℕ, List, [], ◌∷◌, map, length, refl, sym, ap, ◌∙◌, subst, arith}
 use Rattle.std.specs.Prelude.{not, ◌==◌, filter}
 use Rattle.std.specs.List.{All}
-use Rattle.std.proofs.lemmas.List.Elements.{All-head, All-tail, All-weaker}
+use Rattle.std.proofs.lemmas.List.Elements.{All-head, All-tail}
 use Rattle.polys.specs.declared.term.Term.{Term}
 use Rattle.polys.specs.Curve.{CurveData}
 use Rattle.polys.specs.Ideal.{HasDim}
-use Rattle.curve_model.specs.Laws.{IsRegular, IsFinite, ArePolys}
+use Rattle.curve_model.specs.Laws.{IsFinite, ArePolys}
 use Rattle.curve_model.specs.Point.{IsPoint, HasDegree}
 use Rattle.curve_model.specs.Delta.{HasDelta}
 use Rattle.curve_model.specs.Closure.{Closure}
 use Rattle.curve_laws.proofs.ClosingLaws.{unique_closure_law}
 use Rattle.chain_laws.proofs.FewerLaws.{unique_delta_law}
-use Rattle.problem.specs.Problem.{ProblemData, curve_of}
-use Rattle.norm_text.specs.Answer.{PointData, AnswerData, answer_text}
-use Rattle.norm_text.specs.Answers.{IsAnswer, ArePointsOf, named_number}
+use Rattle.problem.specs.Problem.{curve_of}
+use Rattle.norm_text.specs.Answer.{PointData, answer_text}
+use Rattle.norm_text.specs.Answers.{named_number}
 use Rattle.norm_text.specs.Meaning.{AnswersAreOne, TextsAreOne}
 use Rattle.norm_text.proofs.Meaning.{named_points, finite_of}
 use Rattle.norm_text.proofs.OneList.{one_list}

@@ -1,14 +1,13 @@
 -- Two lists that rise and have the same members are equal.
-use Rattle.std.proofs.Common.{◌≡◌, ◌↔◌, ℕ, zero, suc, ◌<◌, List, [], ◌∷◌, map, length, slice_index_or, refl, sym, ap, ◌∙◌, subst, arith}
+use Rattle.std.proofs.Common.{◌≡◌, ℕ, zero, suc, ◌<◌, List, [], ◌∷◌, map, length, slice_index_or, refl, sym, ap, ◌∙◌, subst, arith}
 use Rattle.std.specs.List.{Contains, AllPairs}
 use Rattle.std.specs.Ordering.{nat_cmp, ordering_reverse}
 use Rattle.std.specs.Cmp.Lexicographic.{slice_cmp, nat_list_cmp_total}
 use Rattle.std.specs.declared.cmp.Ordering.{Ordering}
 use Rattle.std.specs.declared.cmp.Ordering.TheVariants.{Less}
 use Rattle.std.proofs.lemmas.List.{get_or-map, length-map}
-use Rattle.polys.specs.declared.term.Term.{Term}
 use Rattle.poly_text.specs.PolyText.{list_text}
-use Rattle.norm_text.specs.Named.{IsNamedList, OneNamedList}
+use Rattle.norm_text.specs.Named.{OneNamedList}
 
 -- ---- over a strict order
 
