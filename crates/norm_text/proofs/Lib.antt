@@ -17,3 +17,4 @@ mod Leaves
 mod NextItems
 mod Sizes
 mod Whole
+mod TextsTell

@@ -21,7 +21,7 @@ no_bytes : (b : Bool) (bytes : List ℕ) → b ≡ true → b ≡ (length bytes 
 no_bytes b bytes all is = grind (arith, nat_tests)
 
 -- bytes that begin with the word, and do not
-off : (bytes text : List ℕ) (word : List ℕ) → bytes ≡ text → begins word bytes ≡ true → begins word text ≡ false → ⊥
+pub off : (bytes text : List ℕ) (word : List ℕ) → bytes ≡ text → begins word bytes ≡ true → begins word text ≡ false → ⊥
 off bytes text word e starts none = absurd (let same : begins word bytes ≡ begins word text = ap (begins word) e in cc)
 
 module _ (p : ℕ) (letters : List ℕ) (ground : AreKnown p letters) where

@@ -3,6 +3,9 @@ ghost use Rattle.norm_text.specs.Plain.{PlainAnswers};
 ghost use Rattle.norm_text.specs.Examples.{AtNames, AtPassesBy};
 ghost use Rattle.norm_text.specs.Meaning.{ModulesAreIntegral, ModulesAreLocal, PowersAreLeast, AnswersAreOne, TextsAreOne};
 ghost use Rattle.norm_text.specs.Named.{OneNamedList};
+ghost use Rattle.norm_text.specs.Reading.{AnswerTextsTell};
+
+use poly_text::texts_tell_polynomials;
 
 /// Where nothing is left modulo a regular denominator and no points are named, the ring is its own closure: there is no
 /// point, the power is 0, and the one numerator is 1.
@@ -31,3 +34,10 @@ pub fn statements_name_points()
     ensures names { AtNames }
     ensures passes_by { AtPassesBy }
 {}
+
+/// The text of data in range tells the data: no text is that of two.
+pub fn answer_texts_tell()
+    ensures { AnswerTextsTell }
+{
+    texts_tell_polynomials();
+}
