@@ -1,5 +1,4 @@
 -- for the runs alone
-mod WordLemmas
 mod ProblemLemmas
 mod InputLemmas
 mod RunLemmas

@@ -1,4 +1,4 @@
-pub mod Words
+pub mod Asking
 pub mod Refusals
 pub mod Solved
 pub mod Telling

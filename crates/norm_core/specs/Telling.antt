@@ -13,7 +13,6 @@ use Rattle.jacobian_pick.specs.declared.choosing.PickStop.TheVariants.{Memory}
 use Rattle.norm_core.specs.declared.refusals.Refusal.{Refusal}
 use Rattle.norm_core.specs.Refusals.{usage_line, bytes_line, fault_line, fault_status, stop_line, stop_status, status_of}
 use Rattle.norm_core.specs.Solved.{IsWithinLimit, IsSolved, IsRefusedByDelta}
-use Rattle.norm_core.specs.Words.{AskUnder, AskNothing}
 
 -- ---- problems
 
@@ -69,21 +68,33 @@ pub record Told (cap limit : ℕ) (left left_now : Option (List ℕ)) (status : 
 
 -- ---- runs
 
--- what is told of these words and this source, before any fault of the sink
-abbrev pub ToTell : List (List ℕ) → Option (List ℕ) → Option (List ℕ) → ℕ → List ℕ → Type 0
-ToTell words left left_now status text =
-    (AskNothing words × (status ≡ 2) × (text ≡ usage_line)) ⊎ ((cap : ℕ) × (limit : ℕ) × AskUnder words cap limit × Told cap limit left left_now status text)
+-- what a top call serves of its words: each cap and limit under which they ask for an answer
+abbrev pub Service : Type 1
+Service = ℕ → ℕ → Type 0
+
+-- this one
+abbrev pub OnlyUnder : ℕ → ℕ → Service
+OnlyUnder cap limit other_cap other_limit = (other_cap ≡ cap) × (other_limit ≡ limit)
+
+-- they ask for nothing that it serves
+abbrev pub AsksNothing : Service → Type 0
+AsksNothing serves = (cap limit : ℕ) → serves cap limit → ⊥
+
+-- what is told of the words and of this source, before any fault of the sink
+abbrev pub ToTell : Service → Option (List ℕ) → Option (List ℕ) → ℕ → List ℕ → Type 0
+ToTell serves left left_now status text =
+    (AsksNothing serves × (status ≡ 2) × (text ≡ usage_line)) ⊎ ((cap : ℕ) × (limit : ℕ) × serves cap limit × Told cap limit left left_now status text)
 
 -- the status of a run that neither a fault nor want of memory cut short; the sink gained the text
-abbrev pub IsTold : List (List ℕ) → Option (List ℕ) → Option (List ℕ) → Option (List ℕ) → Option (List ℕ) → ℕ → Type 0
-IsTold words left left_now held held_now status = (text : List ℕ) × ToTell words left left_now status text × Appends held held_now text
+abbrev pub IsTold : Service → Option (List ℕ) → Option (List ℕ) → Option (List ℕ) → Option (List ℕ) → ℕ → Type 0
+IsTold serves left left_now held held_now status = (text : List ℕ) × ToTell serves left left_now status text × Appends held held_now text
 
 -- the sink gained less than the whole of what was to be told
-pub record IsCutShort (words : List (List ℕ)) (left left_now held held_now : Option (List ℕ)) : Type 0 where
+pub record IsCutShort (serves : Service) (left left_now held held_now : Option (List ℕ)) : Type 0 where
   pub status : ℕ
   pub text : List ℕ
   pub written : ℕ
-  pub meant : ToTell words left left_now status text
+  pub meant : ToTell serves left left_now status text
   pub part : written < length text
   pub gained : Appends held held_now (take written text)
 

@@ -3,11 +3,10 @@
 
 mod answering;
 mod refusals;
-mod run;
+mod serving;
 mod solving;
-mod words;
 
-pub use run::run_alone;
+pub use serving::run_alone;
 
 #[cfg(test)]
 mod tests;

@@ -200,6 +200,7 @@ fn other_words_are_refused(rt: HostRuntime) -> Result<(), Fail> {
     for (words, status) in [
         ([].as_slice(), 2),
         (["normal"].as_slice(), 2),
+        (["normal", "--workers", "2"].as_slice(), 2),
         (["Alone"].as_slice(), 2),
         (["alone", "alone"].as_slice(), 2),
         (["alone", "--degree"].as_slice(), 2),

@@ -1,7 +1,7 @@
 use Rattle.std.proofs.Common.{refl}
-use Rattle.norm_core.specs.Words.{none}
-use Rattle.norm_core.proofs.WordLemmas.{joined_found, joined_complete, no_value, no_setting, apart_found, apart_complete}
-use Rattle.norm_core.proofs.words.+given_in.Goals as goal
+use Rattle.command_line.specs.Options.{none}
+use Rattle.command_line.proofs.WordLemmas.{joined_found, joined_complete, no_value, no_setting, apart_found, apart_complete}
+use Rattle.command_line.proofs.options.+given_in.Goals as goal
 
 pub returns-in_default-clause-found : goal.returns-in_default-clause-found
 returns-in_default-clause-found t c = none _ _ c.in_default.ensures.words refl

@@ -1,28 +1,26 @@
-// The words after the program's name.
+// The options behind a command's word.
 ghost use Rattle.std.specs.Prelude.{◌≡◌, ◌≤◌, ℕ, List, [], ◌∷◌, ◌+◌, ◌++◌, map, string_bytes, codes, length, IfSome, MatchOption, IsTrue, ◌↔◌, Some};
 ghost use Rattle.module_basis.specs.declared.cap.TheConstants.{MAX_CAP};
-ghost use Rattle.norm_core.specs.Words.{IsNumberUpTo, IsSetting, IsJoined, Adds, Gives, AskUnder};
-ghost use Rattle.norm_core.specs.declared.words.Given.{Given};
-ghost use Rattle.norm_core.specs.declared.words.Setting.{Setting};
+ghost use Rattle.command_line.specs.Options.{IsNumberUpTo, IsSetting, IsJoined, Adds, Gives};
+ghost use Rattle.command_line.specs.declared.options.Given.{Given};
+ghost use Rattle.command_line.specs.declared.options.Setting.{Setting};
 
 use module_basis::MAX_CAP;
 use singular_text::{is_number, number_up_to};
 
-/// The cap where no option is given.
-pub const DEFAULT_CAP: u32 = 200;
+/// The most workers.
+pub const MAX_WORKERS: u32 = 16;
 
-/// The greatest limit, which is the limit where no option is given.
+/// The greatest limit of delta, which is the limit where no option is given.
 pub const MAX_LIMIT: u32 = 64;
 
-/// The most digits of a value.
+// The most digits of a value.
 const MAX_DIGITS: usize = 4;
-
-/// The most words of options: each of two at most once, and in two words at most.
-const MAX_OPTION_WORDS: usize = 4;
 
 /// What one option sets.
 #[derive(Clone, Copy)]
 pub enum Setting {
+    Workers(u32),
     Degree(u32),
     Delta(u32),
 }
@@ -30,19 +28,13 @@ pub enum Setting {
 /// What the options set, each at most once.
 #[derive(Clone, Copy)]
 pub struct Given {
+    pub workers: Option<u32>,
     pub degree: Option<u32>,
     pub delta: Option<u32>,
 }
 
-/// What is asked for: the cap of the degrees, and the limit of the deltas.
-#[derive(Clone, Copy)]
-pub struct Ask {
-    pub cap: u32,
-    pub limit: u32,
-}
-
 // The number from 1 to `most` that a word writes.
-fn number_in(most: u32, word: &[u8]) -> Option<u32>
+pub(crate) fn number_in(most: u32, word: &[u8]) -> Option<u32>
     requires { most ≤ MAX_CAP }
     ensures found { IfSome result (λ n. IsNumberUpTo most word.now n) }
     ensures complete { (n : ℕ) → IsNumberUpTo most word.now n → result ≡ Some n }
@@ -58,10 +50,21 @@ fn number_in(most: u32, word: &[u8]) -> Option<u32>
 }
 
 // Whether the word is this text.
-fn is_text(word: &[u8], text: &[u8]) -> bool
+pub(crate) fn is_text(word: &[u8], text: &[u8]) -> bool
     ensures { IsTrue result ↔ (word.now ≡ text.now) }
 {
     word == text
+}
+
+// What `--workers` and a value set.
+fn workers_of(name: &[u8], value: &[u8]) -> Option<u32>
+    ensures found { IfSome result (λ workers. (name.now ≡ codes "--workers") × IsNumberUpTo MAX_WORKERS value.now workers) }
+    ensures complete { (workers : ℕ) → name.now ≡ codes "--workers" → IsNumberUpTo MAX_WORKERS value.now workers → result ≡ Some workers }
+{
+    if !is_text(name, b"--workers") {
+        return None;
+    }
+    number_in(MAX_WORKERS, value)
 }
 
 // What `--degree` and a value set.
@@ -91,10 +94,21 @@ fn setting_of(name: &[u8], value: &[u8]) -> Option<Setting>
     ensures found { IfSome result (λ setting. IsSetting name.now value.now setting) }
     ensures complete { (setting : Setting) → IsSetting name.now value.now setting → result ≡ Some setting }
 {
+    if let Some(workers) = workers_of(name, value) {
+        return Some(Setting::Workers(workers));
+    }
     if let Some(cap) = degree_of(name, value) {
         return Some(Setting::Degree(cap));
     }
     Some(Setting::Delta(delta_of(name, value)?))
+}
+
+// The number behind `--workers=`.
+fn joined_workers(word: &[u8]) -> Option<u32>
+    ensures found { IfSome result (λ n. (value : List ℕ) × (word.now ≡ codes "--workers=" ++ value) × IsNumberUpTo MAX_WORKERS value n) }
+    ensures complete { (value : List ℕ) (n : ℕ) → word.now ≡ codes "--workers=" ++ value → IsNumberUpTo MAX_WORKERS value n → result ≡ Some n }
+{
+    number_in(MAX_WORKERS, word.strip_prefix(b"--workers=".as_slice())?)
 }
 
 // The cap behind `--degree=`.
@@ -118,6 +132,9 @@ fn joined_setting(word: &[u8]) -> Option<Setting>
     ensures found { IfSome result (λ setting. IsJoined word.now setting) }
     ensures complete { (setting : Setting) → IsJoined word.now setting → result ≡ Some setting }
 {
+    if let Some(workers) = joined_workers(word) {
+        return Some(Setting::Workers(workers));
+    }
     if let Some(cap) = joined_degree(word) {
         return Some(Setting::Degree(cap));
     }
@@ -130,6 +147,10 @@ fn with_setting(given: Given, setting: Setting) -> Option<Given>
     ensures complete { (after : Given) → Adds given setting after → result ≡ Some after }
 {
     match setting {
+        Setting::Workers(workers) if given.workers.is_none() => Some(Given {
+            workers: Some(workers),
+            ..given
+        }),
         Setting::Degree(cap) if given.degree.is_none() => Some(Given {
             degree: Some(cap),
             ..given
@@ -143,7 +164,7 @@ fn with_setting(given: Given, setting: Setting) -> Option<Given>
 }
 
 // The first word, and the words behind it.
-fn first_word(words: &[String]) -> Option<(&[u8], &[String])>
+pub(crate) fn first_word(words: &[String]) -> Option<(&[u8], &[String])>
     ensures words { MatchOption result (map string_bytes words.now ≡ []) (λ p. map string_bytes words.now ≡ p.0.now ∷ map string_bytes p.1.now) }
     ensures shorter { IfSome result (λ p. length p.1.now + 1 ≡ length words.now) }
 {
@@ -152,12 +173,13 @@ fn first_word(words: &[String]) -> Option<(&[u8], &[String])>
 }
 
 // What the words of options set, or `None` where one of them is no option.
-fn given_in(words: &[String]) -> Option<Given>
+pub(crate) fn given_in(words: &[String]) -> Option<Given>
     ensures found { IfSome result (λ given. Gives (map string_bytes words.now) given) }
     ensures complete { (given : Given) → Gives (map string_bytes words.now) given → result ≡ Some given }
 {
     let Some((word, behind)) = first_word(words) else {
         return Some(Given {
+            workers: None,
             degree: None,
             delta: None,
         });
@@ -168,25 +190,4 @@ fn given_in(words: &[String]) -> Option<Given>
     let (value, rest) = first_word(behind)?;
     let setting = setting_of(word, value)?;
     with_setting(given_in(rest)?, setting)
-}
-
-/// The cap and the limit that the words ask for, or `None` where they ask for nothing that is served.
-pub fn asked(words: &[String]) -> Option<Ask>
-    ensures found { IfSome result (λ a. AskUnder (map string_bytes words.now) a.cap a.limit) }
-    ensures complete { (cap limit : ℕ) → AskUnder (map string_bytes words.now) cap limit → result ≡ Some (record { cap = cap; limit = limit }) }
-    ensures cap { IfSome result (λ a. (1 ≤ a.cap) × (a.cap ≤ MAX_CAP)) }
-    ensures limit { IfSome result (λ a. (1 ≤ a.limit) × (a.limit ≤ 64)) }
-{
-    let (command, options) = first_word(words)?;
-    if !is_text(command, b"alone") {
-        return None;
-    }
-    if options.len() > MAX_OPTION_WORDS {
-        return None;
-    }
-    let given = given_in(options)?;
-    Some(Ask {
-        cap: given.degree.unwrap_or(DEFAULT_CAP),
-        limit: given.delta.unwrap_or(MAX_LIMIT),
-    })
 }

@@ -1,5 +1,5 @@
 use Rattle.std.proofs.Common.{length}
-use Rattle.norm_core.proofs.words.+given_in.Given as goal
+use Rattle.command_line.proofs.options.+given_in.Given as goal
 
 abbrev pub decreases-given_in : goal.decreases-given_in
 decreases-given_in l = length l.words.now

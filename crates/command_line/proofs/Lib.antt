@@ -1,0 +1,2 @@
+-- for the words alone
+mod WordLemmas
